@@ -1,0 +1,2 @@
+-- The laws of reading, each once. Assumes nothing.
+pub mod Big

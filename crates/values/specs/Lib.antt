@@ -1,0 +1,5 @@
+-- One MessagePack value at the front of bytes, numbers of several bytes, and the values of a container as pieces.
+pub mod Number
+pub mod Value
+pub mod Pieces
+pub mod Examples
