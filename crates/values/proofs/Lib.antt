@@ -1,2 +1,3 @@
 -- The laws of reading, each once. Assumes nothing.
 pub mod Big
+pub mod Laws

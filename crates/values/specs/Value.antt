@@ -57,3 +57,8 @@ container v w f p s = shift 1 (sized w (λ n t. items v (n * p + f) t) s)
 unfoldable pub value : ℕ → Bytes → Read
 value zero s = one tooDeep s
 value (suc d) s = one (container (value d)) s
+
+-- the same, as what a container's first byte begins where the value may have depth d
+unfoldable pub inside : ℕ → ℕ → ℕ → ℕ → Bytes → Read
+inside zero = tooDeep
+inside (suc d) = container (value d)

@@ -4,7 +4,7 @@ ghost use mathlib.Core.Path.{_≡_};
 ghost use Prim.Native.Nat.{_+_, _*_, _^_, _<_, _≤_};
 ghost use lib.ListN.{length, take, drop};
 ghost use Rattle.values.specs.Number.{number, numberAt, Below};
-ghost use Rattle.values.specs.Value.{shift, payload, sized, items, container, value};
+ghost use Rattle.values.specs.Value.{shift, payload, sized, inside, value};
 
 // Whole, with the place of the first byte after it; or broken, with the place of the first
 // spoiling byte: an unused first byte, a container one too deep, or the end of the bytes.
@@ -46,4 +46,63 @@ pub fn number_at(s: &[u8], at: usize, width: usize) -> Number
         i += 1;
     }
     Number::Is(n)
+}
+
+// A scalar's length of `width` bytes from `at`, then that many bytes and `fixed` more.
+fn read_bytes(s: &[u8], at: usize, width: usize, fixed: usize) -> Read
+    requires { ⌜ (at ≤ length (now s)) × ((width ≤ 4) × (fixed ≤ 31)) ⌝ }
+    ensures { λ r. ⌜ r ≡ shift at (sized width (λ n t. payload (n + fixed) t) (drop at (now (s .entry)))) ⌝ }
+{
+    let Number::Is(n) = number_at(s, at, width) else {
+        return Read::Broken(s.len());
+    };
+    let from = at + width;
+    let due = n as usize + fixed;
+    if s.len() - from < due {
+        return Read::Broken(s.len());
+    }
+    Read::Whole(from + due)
+}
+
+// One value at `at`, of depth at most `depth`.
+pub fn read_value(s: &[u8], at: usize, depth: usize) -> Read
+    ensures { λ r. ⌜ r ≡ shift at (value depth (drop at (now (s .entry)))) ⌝ }
+{
+    if s.len() <= at {
+        return Read::Broken(at);
+    }
+    match first_bytes::form_of(s[at]) {
+        Form::Unused => Read::Broken(at),
+        Form::Scalar(_, width, fixed) => read_bytes(s, at + 1, width, fixed),
+        Form::Array(width, fixed) => read_items(s, at, width, fixed, 1, depth),
+        Form::Map(width, fixed) => read_items(s, at, width, fixed, 2, depth),
+    }
+}
+
+// The values of the container whose first byte stands at `at`: `per` for each that its `width`
+// count bytes say, and `fixed` more.
+fn read_items(s: &[u8], at: usize, width: usize, fixed: usize, per: usize, depth: usize) -> Read
+    requires { ⌜ (at < length (now s)) × ((width ≤ 4) × ((fixed ≤ 31) × (per ≤ 2))) ⌝ }
+    ensures { λ r. ⌜ r ≡ shift at (inside depth width fixed per (drop (at + 1) (now (s .entry)))) ⌝ }
+{
+    if depth == 0 {
+        return Read::Broken(at);
+    }
+    let Number::Is(n) = number_at(s, at + 1, width) else {
+        return Read::Broken(s.len());
+    };
+    let mut end = at + 1 + width;
+    let mut left = n as usize * per + fixed;
+    while 0 < left {
+        match read_value(s, end, depth - 1) {
+            Read::Whole(next) => {
+                end = next;
+            }
+            Read::Broken(place) => {
+                return Read::Broken(place);
+            }
+        }
+        left -= 1;
+    }
+    Read::Whole(end)
 }

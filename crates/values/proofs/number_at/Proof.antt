@@ -1,62 +1,78 @@
+-- `number_at` is the definition `numberAt`. The loop's invariant: n is the number of the first i bytes. Assumes nothing.
+use native.Mathlib.Omega.{arith}
+use borrow.Author.Needs.{needs}
+use borrow.Author.Tests.{le-leb, lt-leb}
+use Prim.Native.Nat.{ℕ, _+_, _-_, _*_, _^_, _<_, _≤_}
+use mathlib.Core.Path.{_≡_, refl, sym, ap, _∙_}
+use mathlib.Core.Bool.{and-false}
+use lib.ListN.{length, take, drop}
+use Rattle.values.specs.Number.{number}
+use Rattle.values.specs.declared.Number.the-variants.{Is, Missing}
+use Rattle.values.proofs.Big.{number-next, grow, small}
 use Rattle.values.proofs.number_at.Statement.{statement}
 use Rattle.values.proofs.number_at.Tie as tie
-use Rattle.values.proofs.number_at.Reads as reads
-use Rattle.values.proofs.number_at.Lts as lts
-use Rattle.values.proofs.appended.Reads as appended-reads
 
 abbrev Inv-loop : tie.InvT-loop
-Inv-loop s at width n₀ i₀ n i = ?
+Inv-loop s at width n₀ i₀ n i = (i ≤ width) × (n ≡ number (take i (drop at s))) × (n < 2 ^ (8 * i))
 
 abbrev μ-loop : tie.MeasureT-loop
-μ-loop s at width n₀ i₀ n i = ?
+μ-loop s at width n₀ i₀ n i = width - i
 
--- src/lib.rt:34:9
 returns : tie.Need-returns Inv-loop μ-loop
-returns c = ?
+returns c = (simp (lt-leb _ _ (c .if1 .taken)), tt)
 
--- src/lib.rt:37:9
 returns-2 : tie.Need-returns-2 Inv-loop μ-loop
-returns-2 c = ?
+returns-2 c =
+    let a = c .before .before .before .args in
+    (simp (lt-leb (a .at + a .width) (length (a .s .now)) (omega arith), and-false), tt)
 
--- src/lib.rt:39:8
 sub-if3 : tie.Need-sub-if3 Inv-loop μ-loop
-sub-if3 c = ?
+sub-if3 c = omega arith
 
--- src/lib.rt:40:9
 returns-3 : tie.Need-returns-3 Inv-loop μ-loop
-returns-3 c = ?
+returns-3 c =
+    let a = c .before .before .before .before .args in
+    (simp (lt-leb (a .at + a .width) (length (a .s .now)) (omega arith), and-false), tt)
 
--- src/lib.rt:44:5
 loop-holds : tie.Need-loop-holds Inv-loop μ-loop
-loop-holds c = ?
+unfolding number
+loop-holds c = (omega arith, refl, omega arith)
 
--- src/lib.rt:45:27
 add-appended : tie.Need-add-appended Inv-loop μ-loop
-add-appended c = ?
+add-appended c = omega arith
 
--- src/lib.rt:45:25
 shared-slice-read-appended : tie.Need-shared-slice-read-appended Inv-loop μ-loop
-shared-slice-read-appended c = ?
+shared-slice-read-appended c = omega arith
 
--- src/lib.rt:45:9
 appended-requires : tie.Need-appended-requires Inv-loop μ-loop
-appended-requires c κs = ?
+appended-requires c κs =
+    let l = c .before .before .loop in
+    small (l .n) (l .i) 7 (omega arith) (l .inv .2)
 
--- src/lib.rt:46:9
 add-i : tie.Need-add-i Inv-loop μ-loop
-add-i c = ?
+add-i c = omega arith
 
--- src/lib.rt:44:5
 loop-less : tie.Need-loop-less Inv-loop μ-loop
-loop-less c = ?
+loop-less c = omega arith
 
--- src/lib.rt:44:5
 loop-again : tie.Need-loop-again Inv-loop μ-loop
-loop-again c = ?
+loop-again c =
+    let l = c .before .before .before .loop in
+    let a = c .before .before .before .before .before .before .before .before .args in
+    let b = c .before .shared-slice-known2 .given (a .at + l .i) in (
+      omega arith,
+      cc (c .appended .ensures, l .inv .1, number-next (a .s .now) (a .at) (l .i) (omega arith)),
+      rw (c .appended .ensures) (grow (l .i) (l .inv .2) (omega arith)),
+    )
 
--- src/lib.rt:30:1
 returns-4 : tie.Need-returns-4 Inv-loop μ-loop
-returns-4 c = ?
+returns-4 c =
+    let l = c .before .loop in
+    let a = c .before .before .before .before .before .before .args in
+    let e : l .i ≡ a .width = omega arith in
+    let h : a .width ≤ 8 = omega arith in
+    let k : a .at + a .width ≤ length (a .s .now) = omega arith in
+    (simp (le-leb _ _ h, le-leb _ _ k) (ap Is (rw e at (l .inv .1))), rw e at (l .inv .2))
 
 pub number-at-spec : {M : Type 1} → statement M
 number-at-spec =
