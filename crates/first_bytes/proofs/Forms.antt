@@ -5,24 +5,14 @@ use mathlib.Core.List.{List, [], _∷_}
 use Prim.Native.Nat.{ℕ, _+_, _<_, _≤_}
 use lib.Dec.{T, eqb, eqb→eq}
 use lib.ListN.{getD}
+use Rattle.first_bytes.specs.FirstByte.{kindNo}
 use Rattle.first_bytes.specs.declared.Kind.{Kind}
 use Rattle.first_bytes.specs.declared.Kind.the-variants.{Nil, Boolean, Unsigned, Signed, Float32, Float64, String, Bin, Ext}
 use Rattle.first_bytes.specs.declared.Form.{Form}
 use Rattle.first_bytes.specs.declared.Form.the-variants.{Unused, Scalar, Array, Map}
 use Rattle.first_bytes.proofs.Range.{both, both-left, both-right, all, all-at}
 
--- a kind as a number, and back
-abbrev pub kindNo : Kind → ℕ
-kindNo Nil = 0
-kindNo Boolean = 1
-kindNo Unsigned = 2
-kindNo Signed = 3
-kindNo Float32 = 4
-kindNo Float64 = 5
-kindNo String = 6
-kindNo Bin = 7
-kindNo Ext = 8
-
+-- a kind from its number
 abbrev kindAt : ℕ → Kind
 kindAt n = getD (Nil ∷ Boolean ∷ Unsigned ∷ Signed ∷ Float32 ∷ Float64 ∷ String ∷ Bin ∷ Ext ∷ []) n Nil
 

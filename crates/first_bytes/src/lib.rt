@@ -1,7 +1,7 @@
 // The first byte of a MessagePack value: one decision over ranges.
 ghost use mathlib.Core.Path.{_≡_};
 ghost use Prim.Native.Nat.{_^_, _<_, _≤_};
-ghost use Rattle.first_bytes.specs.FirstByte.{formOf};
+ghost use Rattle.first_bytes.specs.FirstByte.{formOf, kindNo, sameKind};
 
 // What a value is that holds no other value.
 pub enum Kind {
@@ -61,4 +61,27 @@ pub fn form_of(b: u8) -> Form
         0xde..=0xdf => Form::Map(2 * power_of_two(b - 0xde), 0),
         0xe0..=0xff => Form::Scalar(Kind::Signed, 0, 0),
     }
+}
+
+fn kind_no(k: Kind) -> u8
+    ensures { λ r. ⌜ r ≡ kindNo k ⌝ }
+{
+    match k {
+        Kind::Nil => 0,
+        Kind::Boolean => 1,
+        Kind::Unsigned => 2,
+        Kind::Signed => 3,
+        Kind::Float32 => 4,
+        Kind::Float64 => 5,
+        Kind::String => 6,
+        Kind::Bin => 7,
+        Kind::Ext => 8,
+    }
+}
+
+// Whether two kinds are the same.
+pub fn same_kind(a: Kind, b: Kind) -> bool
+    ensures { λ r. ⌜ r ≡ sameKind a b ⌝ }
+{
+    kind_no(a) == kind_no(b)
 }

@@ -95,49 +95,49 @@ returns-9 c = agree (λ b. Scalar Boolean 0 0) formOf 0xc2 2 tt (c .before .befo
 
 returns-10 : tie.Need-returns-10
 unfolding formOf
-returns-10 c = 
+returns-10 c =
     rw (c .power-of-two .ensures .0)
     (agree (λ b. Scalar Bin (2 ^ (b - 0xc4)) 0) formOf 0xc4 3 tt (c .before .before .before .before .before .before .before .before .before .args .b) (omega arith) (omega arith))
 
 returns-11 : tie.Need-returns-11
 unfolding formOf
-returns-11 c = 
+returns-11 c =
     rw (c .power-of-two2 .ensures .0)
     (agree (λ b. Scalar Ext (2 ^ (b - 0xc7)) 1) formOf 0xc7 3 tt (c .before .before .before .before .before .before .before .before .before .args .b) (omega arith) (omega arith))
 
 returns-12 : tie.Need-returns-12
 unfolding formOf
-returns-12 c = 
+returns-12 c =
     rw (c .power-of-two3 .ensures .0)
     (agree (λ b. Scalar Unsigned 0 (2 ^ (b - 0xcc))) formOf 0xcc 4 tt (c .before .before .before .before .args .b) (omega arith) (omega arith))
 
 returns-13 : tie.Need-returns-13
 unfolding formOf
-returns-13 c = 
+returns-13 c =
     rw (c .power-of-two4 .ensures .0)
     (agree (λ b. Scalar Signed 0 (2 ^ (b - 0xd0))) formOf 0xd0 4 tt (c .before .before .before .before .before .args .b) (omega arith) (omega arith))
 
 returns-14 : tie.Need-returns-14
 unfolding formOf
-returns-14 c = 
+returns-14 c =
     rw (c .power-of-two5 .ensures .0)
     (agree (λ b. Scalar Ext 0 (1 + 2 ^ (b - 0xd4))) formOf 0xd4 5 tt (c .before .before .before .before .before .before .args .b) (omega arith) (omega arith))
 
 returns-15 : tie.Need-returns-15
 unfolding formOf
-returns-15 c = 
+returns-15 c =
     rw (c .power-of-two6 .ensures .0)
     (agree (λ b. Scalar String (2 ^ (b - 0xd9)) 0) formOf 0xd9 3 tt (c .before .before .before .before .before .before .before .args .b) (omega arith) (omega arith))
 
 returns-16 : tie.Need-returns-16
 unfolding formOf
-returns-16 c = 
+returns-16 c =
     rw (c .power-of-two7 .ensures .0)
     (agree (λ b. Array (2 * 2 ^ (b - 0xdc)) 0) formOf 0xdc 2 tt (c .before .before .before .before .before .before .before .before .args .b) (omega arith) (omega arith))
 
 returns-17 : tie.Need-returns-17
 unfolding formOf
-returns-17 c = 
+returns-17 c =
     rw (c .power-of-two8 .ensures .0)
     (agree (λ b. Map (2 * 2 ^ (b - 0xde)) 0) formOf 0xde 2 tt (c .before .before .before .before .before .before .before .before .before .args .b) (omega arith) (omega arith))
 
