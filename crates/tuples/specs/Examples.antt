@@ -2,6 +2,7 @@
 use Prim.Native.Nat.{ℕ, _-_}
 use mathlib.Core.Path.{_≡_, refl}
 use mathlib.Core.List.{List, [], _∷_, _++_, map}
+use mathlib.Core.Option.{Option, none, some}
 use lib.ListN.{length, replicate}
 use Rattle.first_bytes.specs.Bytes.{Bytes}
 use Rattle.first_bytes.specs.FirstByte.{formOf, sameKind}
@@ -16,6 +17,7 @@ use Rattle.tuples.specs.Decoding.{onGot, then, made, nothing, valueFrom,
 use Rattle.tuples.specs.Operation.{three, five, actionOf, operation, before, andMore, operations, listBy, operationsOf}
 use Rattle.tuples.specs.Edit.{asℤ, ranged, spliced, stringForm, became, suited, altered, editAt, fieldAt, planOf, plans, fits, limited, perform, step, run, operationBytes, restored, inverse, undoOf}
 use Rattle.tuples.specs.Call.{numberOf, judged, onRun, updateOf, limitedList, undoListOf, update, undo, Result, refusing, writing, delivered, updateCall, undoCall}
+use Rattle.tuples.specs.Sequence.{Event, change, back, Shown, start, wrote, byCalls, entered, taken, takenTop, after, callTop, callOf, listing, undoneOf, trace}
 
 -- the buffer that each call is lent, and what its caller sees of w written into it, and of a refusal
 abbrev pub room : Bytes
@@ -71,6 +73,106 @@ known =
     ∷ case (0x90 ∷ []) (0x90 ∷ []) 0 (0x90 ∷ []) (0x90 ∷ [])
     ∷ []
 
-pub known-right : map computed known ≡ known
-unfolding formOf sameKind number payload sized items byForm one tooDeep container value pieces joined naturalOf twosComplement signedOf integerBy integer counted stringBy arrayBy header bigEndian unsignedForm negativeForm stringHeader arrayHeader plain filling values fieldsBy fieldsOf onGot then made nothing valueFrom anyValue integerFrom anyInteger less floor atLeast position stringFrom string countFrom count mark three five actionOf operation before andMore operations listBy operationsOf asℤ ranged spliced stringForm became suited altered editAt fieldAt planOf plans fits limited perform step run operationBytes restored inverse undoOf numberOf judged onRun updateOf limitedList undoListOf update undo refusing writing delivered updateCall undoCall
-known-right = refl
+-- one for each rule
+abbrev pub rules : List Case
+rules =
+    -- a longer header or number than needed is no error, in tuple, list or operation
+    case (0xdd ∷ 0x00 ∷ 0x00 ∷ 0x00 ∷ 0x01 ∷ 0x07 ∷ []) (0xdc ∷ 0x00 ∷ 0x01 ∷ 0xdd ∷ 0x00 ∷ 0x00 ∷ 0x00 ∷ 0x03 ∷ 0xa1 ∷ 0x2b ∷ 0xd3 ∷ 0x00 ∷ 0x00 ∷ 0x00 ∷ 0x00 ∷ 0x00 ∷ 0x00 ∷ 0x00 ∷ 0x00 ∷ 0xcc ∷ 0x01 ∷ []) 0
+    (0x91 ∷ 0x08 ∷ []) (0x91 ∷ 0x93 ∷ 0xa1 ∷ 0x3d ∷ 0x00 ∷ 0x07 ∷ [])
+    -- each operation meets what the one before left
+    ∷ case (0x93 ∷ 0x01 ∷ 0x02 ∷ 0x03 ∷ []) (0x92 ∷ 0x93 ∷ 0xa1 ∷ 0x23 ∷ 0x00 ∷ 0x01 ∷ 0x93 ∷ 0xa1 ∷ 0x2b ∷ 0x00 ∷ 0x05 ∷ []) 0
+    (0x92 ∷ 0x07 ∷ 0x03 ∷ []) (0x92 ∷ 0x93 ∷ 0xa1 ∷ 0x3d ∷ 0x00 ∷ 0x02 ∷ 0x93 ∷ 0xa1 ∷ 0x21 ∷ 0x00 ∷ 0x01 ∷ [])
+    -- numbers from 1; the undo list counts from 0
+    ∷ case (0x91 ∷ 0x05 ∷ []) (0x91 ∷ 0x93 ∷ 0xa1 ∷ 0x2b ∷ 0x01 ∷ 0x01 ∷ []) 1
+    (0x91 ∷ 0x06 ∷ []) (0x91 ∷ 0x93 ∷ 0xa1 ∷ 0x3d ∷ 0x00 ∷ 0x05 ∷ [])
+    -- a splice past the end, its position from 1
+    ∷ case (0x91 ∷ 0xa2 ∷ 0x61 ∷ 0x62 ∷ []) (0x91 ∷ 0x95 ∷ 0xa1 ∷ 0x3a ∷ 0x01 ∷ 0x02 ∷ 0x09 ∷ 0xa1 ∷ 0x7a ∷ []) 1
+    (0x91 ∷ 0xa2 ∷ 0x61 ∷ 0x7a ∷ []) (0x91 ∷ 0x93 ∷ 0xa1 ∷ 0x3d ∷ 0x00 ∷ 0xa2 ∷ 0x61 ∷ 0x62 ∷ [])
+    ∷ case (0x91 ∷ 0xa2 ∷ 0x61 ∷ 0x62 ∷ []) (0x91 ∷ 0x95 ∷ 0xa1 ∷ 0x3a ∷ 0x00 ∷ 0x09 ∷ 0x00 ∷ 0xa1 ∷ 0x7a ∷ []) 0
+    (0x91 ∷ 0xa3 ∷ 0x61 ∷ 0x62 ∷ 0x7a ∷ []) (0x91 ∷ 0x93 ∷ 0xa1 ∷ 0x3d ∷ 0x00 ∷ 0xa2 ∷ 0x61 ∷ 0x62 ∷ [])
+    -- `&`, `|`, `!`
+    ∷ case (0x91 ∷ 0x07 ∷ []) (0x91 ∷ 0x93 ∷ 0xa1 ∷ 0x26 ∷ 0x00 ∷ 0x05 ∷ []) 0
+    (0x91 ∷ 0x05 ∷ []) (0x91 ∷ 0x93 ∷ 0xa1 ∷ 0x3d ∷ 0x00 ∷ 0x07 ∷ [])
+    ∷ case (0x91 ∷ 0x05 ∷ []) (0x91 ∷ 0x93 ∷ 0xa1 ∷ 0x7c ∷ 0x00 ∷ 0x08 ∷ []) 0
+    (0x91 ∷ 0x0d ∷ []) (0x91 ∷ 0x93 ∷ 0xa1 ∷ 0x3d ∷ 0x00 ∷ 0x05 ∷ [])
+    ∷ case (0x91 ∷ 0x05 ∷ []) (0x91 ∷ 0x93 ∷ 0xa1 ∷ 0x21 ∷ 0x00 ∷ 0xc0 ∷ []) 0
+    (0x92 ∷ 0xc0 ∷ 0x05 ∷ []) (0x91 ∷ 0x93 ∷ 0xa1 ∷ 0x23 ∷ 0x00 ∷ 0x01 ∷ [])
+    -- fields 12 and 13 deep
+    ∷ case (0x91 ∷ replicate 12 0x91 ++ (0x07 ∷ [])) (0x90 ∷ []) 0
+    (0x91 ∷ replicate 12 0x91 ++ (0x07 ∷ [])) (0x90 ∷ [])
+    ∷ refusedCase (0x91 ∷ replicate 13 0x91 ++ (0x07 ∷ [])) (0x90 ∷ []) 0 11 0
+    -- 11: no array, bytes left over, too few, broken
+    ∷ refusedCase ([]) (0x90 ∷ []) 0 11 0
+    ∷ refusedCase (0x81 ∷ 0x01 ∷ 0x02 ∷ []) (0x90 ∷ []) 0 11 0
+    ∷ refusedCase (0x91 ∷ 0x01 ∷ 0x02 ∷ []) (0x90 ∷ []) 0 11 0
+    ∷ refusedCase (0x92 ∷ 0x01 ∷ []) (0x90 ∷ []) 0 11 0
+    ∷ refusedCase (0x91 ∷ 0xc1 ∷ []) (0x90 ∷ []) 0 11 0
+    ∷ refusedCase (0x91 ∷ 0xc1 ∷ []) (0xc1 ∷ []) 2 11 0
+    -- 12: base, shape, mark, field number, argument, p below 0; also where an operation before it would be refused
+    ∷ refusedCase (0x91 ∷ 0x01 ∷ []) (0x90 ∷ []) 2 12 0
+    ∷ refusedCase (0x91 ∷ 0x01 ∷ []) (0x90 ∷ 0x00 ∷ []) 0 12 0
+    ∷ refusedCase (0x91 ∷ 0x01 ∷ []) (0x91 ∷ 0x92 ∷ 0xa1 ∷ 0x2b ∷ 0x00 ∷ []) 0 12 0
+    ∷ refusedCase (0x91 ∷ 0x01 ∷ []) (0x91 ∷ 0x95 ∷ 0xa1 ∷ 0x2b ∷ 0x00 ∷ 0x01 ∷ 0x01 ∷ 0x01 ∷ []) 0 12 0
+    ∷ refusedCase (0x91 ∷ 0x01 ∷ []) (0x91 ∷ 0x93 ∷ 0xa1 ∷ 0x3a ∷ 0x00 ∷ 0x01 ∷ []) 0 12 0
+    ∷ refusedCase (0x91 ∷ 0x01 ∷ []) (0x91 ∷ 0x93 ∷ 0xd9 ∷ 0x01 ∷ 0x2b ∷ 0x00 ∷ 0x01 ∷ []) 0 12 0
+    ∷ refusedCase (0x91 ∷ 0x01 ∷ []) (0x91 ∷ 0x93 ∷ 0xa1 ∷ 0x2b ∷ 0xc0 ∷ 0x01 ∷ []) 0 12 0
+    ∷ refusedCase (0x91 ∷ 0x01 ∷ []) (0x91 ∷ 0x93 ∷ 0xa1 ∷ 0x2b ∷ 0x00 ∷ 0xc0 ∷ []) 0 12 0
+    ∷ refusedCase (0x91 ∷ 0x01 ∷ []) (0x91 ∷ 0x93 ∷ 0xa1 ∷ 0x26 ∷ 0x00 ∷ 0xff ∷ []) 0 12 0
+    ∷ refusedCase (0x91 ∷ 0x01 ∷ []) (0x91 ∷ 0x93 ∷ 0xa1 ∷ 0x23 ∷ 0x00 ∷ 0x00 ∷ []) 0 12 0
+    ∷ refusedCase (0x91 ∷ 0x01 ∷ []) (0x91 ∷ 0x93 ∷ 0xa1 ∷ 0x3d ∷ 0x00 ∷ replicate 13 0x91 ++ (0x07 ∷ [])) 0 12 0
+    ∷ refusedCase (0x91 ∷ 0xa1 ∷ 0x61 ∷ []) (0x91 ∷ 0x95 ∷ 0xa1 ∷ 0x3a ∷ 0x01 ∷ 0x00 ∷ 0x01 ∷ 0xa0 ∷ []) 1 12 0
+    ∷ refusedCase (0x91 ∷ 0x01 ∷ []) (0x92 ∷ 0x93 ∷ 0xa1 ∷ 0x2b ∷ 0x09 ∷ 0x01 ∷ 0x93 ∷ 0xa1 ∷ 0x2b ∷ 0x09 ∷ 0x90 ∷ []) 0 12 0
+    -- 13, with the operation's index: past n, below 0
+    ∷ refusedCase (0x91 ∷ 0x01 ∷ []) (0x91 ∷ 0x93 ∷ 0xa1 ∷ 0x3d ∷ 0x02 ∷ 0x09 ∷ []) 0 13 0
+    ∷ refusedCase (0x91 ∷ 0x01 ∷ []) (0x92 ∷ 0x93 ∷ 0xa1 ∷ 0x3d ∷ 0x00 ∷ 0x05 ∷ 0x93 ∷ 0xa1 ∷ 0x23 ∷ 0x01 ∷ 0x01 ∷ []) 0 13 1
+    ∷ refusedCase (0x91 ∷ 0x01 ∷ []) (0x91 ∷ 0x93 ∷ 0xa1 ∷ 0x2b ∷ 0xff ∷ 0x01 ∷ []) 0 13 0
+    ∷ refusedCase (0x91 ∷ 0x01 ∷ []) (0x91 ∷ 0x93 ∷ 0xa1 ∷ 0x21 ∷ 0x00 ∷ 0x01 ∷ []) 1 13 0
+    -- 14: type, sign; 15 below the range
+    ∷ refusedCase (0x91 ∷ 0xc3 ∷ []) (0x91 ∷ 0x93 ∷ 0xa1 ∷ 0x2b ∷ 0x00 ∷ 0x01 ∷ []) 0 14 0
+    ∷ refusedCase (0x91 ∷ 0xff ∷ []) (0x91 ∷ 0x93 ∷ 0xa1 ∷ 0x26 ∷ 0x00 ∷ 0x01 ∷ []) 0 14 0
+    ∷ refusedCase (0x91 ∷ 0x01 ∷ []) (0x91 ∷ 0x95 ∷ 0xa1 ∷ 0x3a ∷ 0x00 ∷ 0x00 ∷ 0x01 ∷ 0xa0 ∷ []) 0 14 0
+    ∷ refusedCase (0x91 ∷ 0xd3 ∷ 0x80 ∷ 0x00 ∷ 0x00 ∷ 0x00 ∷ 0x00 ∷ 0x00 ∷ 0x00 ∷ 0x00 ∷ []) (0x91 ∷ 0x93 ∷ 0xa1 ∷ 0x2d ∷ 0x00 ∷ 0x01 ∷ []) 0 15 0
+    -- 64 fields pass; a 65th: 16
+    ∷ refusedCase (0xdc ∷ 0x00 ∷ 0x40 ∷ replicate 64 0x07) (0x91 ∷ 0x93 ∷ 0xa1 ∷ 0x21 ∷ 0x00 ∷ 0x01 ∷ []) 0 16 0
+    ∷ []
+
+-- a sequence: an update on a tuple with a long header; one refused; one from base 1; one whose undo list is too long (32 fields inserted, then
+-- 33 removed), so that it does not go in; one with a short buffer; then takings back, with a short buffer, with room, with just enough, on an empty pile
+abbrev pub first : Bytes
+first = 0xdd ∷ 0x00 ∷ 0x00 ∷ 0x00 ∷ 0x01 ∷ 0xcd ∷ 0x00 ∷ 0x05 ∷ []
+
+abbrev pub events : List Event
+events =
+    change (0x91 ∷ 0x93 ∷ 0xa1 ∷ 0x2b ∷ 0x00 ∷ 0x01 ∷ []) 0 room room
+    ∷ change (0x91 ∷ 0x93 ∷ 0xa1 ∷ 0x23 ∷ 0x07 ∷ 0x01 ∷ []) 0 room room
+    ∷ change (0x91 ∷ 0x93 ∷ 0xa1 ∷ 0x21 ∷ 0x01 ∷ 0x2a ∷ []) 1 room []
+    ∷ change (0xdc ∷ 0x00 ∷ 0x21 ∷ joined (replicate 32 (0x93 ∷ 0xa1 ∷ 0x21 ∷ 0x00 ∷ 0x07 ∷ [])) ++ (0x93 ∷ 0xa1 ∷ 0x23 ∷ 0x00 ∷ 0x21 ∷ [])) 0 room room
+    ∷ change (0x91 ∷ 0x93 ∷ 0xa1 ∷ 0x23 ∷ 0x00 ∷ 0x01 ∷ []) 0 (0x00 ∷ []) room
+    ∷ back (0x00 ∷ [])
+    ∷ back room
+    ∷ back (replicate 4 0x00)
+    ∷ back room
+    ∷ []
+
+abbrev pub tooShort : Bytes → Result
+tooShort out = record { number = 18; operation = 0; length = 0; buffer = out }
+
+abbrev pub shown : Option Result → Option Result → Bytes → Shown
+shown c u t = record { call = c; undone = u; tuple = t }
+
+abbrev pub shows : List Shown
+shows =
+    shown (some (accepted (0x91 ∷ 0x06 ∷ []))) (some (accepted (0x91 ∷ 0x93 ∷ 0xa1 ∷ 0x3d ∷ 0x00 ∷ 0xcd ∷ 0x00 ∷ 0x05 ∷ []))) (0x91 ∷ 0x06 ∷ [])
+    ∷ shown (some (refused 13 0)) none (0x91 ∷ 0x06 ∷ [])
+    ∷ shown (some (accepted (0x92 ∷ 0x2a ∷ 0x06 ∷ []))) (some (tooShort [])) (0x92 ∷ 0x2a ∷ 0x06 ∷ [])
+    ∷ shown (some (accepted (0x91 ∷ 0x06 ∷ []))) none (0x92 ∷ 0x2a ∷ 0x06 ∷ [])
+    ∷ shown (some (tooShort (0x00 ∷ []))) none (0x92 ∷ 0x2a ∷ 0x06 ∷ [])
+    ∷ shown (some (tooShort (0x00 ∷ []))) none (0x92 ∷ 0x2a ∷ 0x06 ∷ [])
+    ∷ shown (some (accepted (0x91 ∷ 0x06 ∷ []))) none (0x91 ∷ 0x06 ∷ [])
+    ∷ shown (some (record { number = 0; operation = 0; length = 4; buffer = 0x91 ∷ 0xcd ∷ 0x00 ∷ 0x05 ∷ [] })) none (0x91 ∷ 0xcd ∷ 0x00 ∷ 0x05 ∷ [])
+    ∷ shown none none (0x91 ∷ 0xcd ∷ 0x00 ∷ 0x05 ∷ [])
+    ∷ []
+
+pub worked : (map computed known ≡ known) × ((map computed rules ≡ rules) × (trace byCalls (start first) events ≡ shows))
+unfolding formOf sameKind number payload sized items byForm one tooDeep container value pieces joined naturalOf twosComplement signedOf integerBy integer counted stringBy arrayBy header bigEndian unsignedForm negativeForm stringHeader arrayHeader plain filling values fieldsBy fieldsOf onGot then made nothing valueFrom anyValue integerFrom anyInteger less floor atLeast position stringFrom string countFrom count mark three five actionOf operation before andMore operations listBy operationsOf asℤ ranged spliced stringForm became suited altered editAt fieldAt planOf plans fits limited perform step run operationBytes restored inverse undoOf numberOf judged onRun updateOf limitedList undoListOf update undo refusing writing delivered updateCall undoCall start wrote byCalls entered taken takenTop after callTop callOf listing undoneOf trace
+worked = (refl, (refl, refl))
