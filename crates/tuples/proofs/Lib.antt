@@ -1,1 +1,9 @@
--- The laws of updates. Assumes nothing.
+-- The laws of updates, each once. Assumes nothing.
+pub mod Whole
+pub mod Legal
+pub mod Tuple
+pub mod Decode
+pub mod Sound
+pub mod Taking
+pub mod Calls
+pub mod Sequences

@@ -107,10 +107,6 @@ module _ (M : Machine) where
   trace s [] = []
   trace s (e ∷ es) = record { call = callOf s e; undone = undoneOf s e; tuple = after s e .tuple } ∷ trace (after s e) es
 
--- DEMAND 3, as one equation: whoever takes back by undo lists sees what one would see who remembered the tuples
-abbrev pub SameTrace : Bytes → List Event → Type 0
-SameTrace t es = trace byCalls (start t) es ≡ trace byMemory (start t) es
-
 -- "a taking back whose buffer is at least as long as the plain form of the tuple that its update was given answers 0 and writes exactly that plain form"
 abbrev pub TopKept : State → List Laid → Bytes → Type 0
 TopKept s [] out = Unit {0}
