@@ -4,11 +4,12 @@ use mathlib.Core.List.{[], _∷_}
 use lib.Dec.{leb, ltb}
 use lib.ListN.{length, take}
 use Rattle.first_bytes.specs.Bytes.{Bytes, pick}
-use Rattle.first_bytes.specs.FirstByte.{formOf, sameKind}
+use Rattle.first_bytes.specs.FirstByte.{formOf}
 use Rattle.first_bytes.specs.declared.Kind.the-variants.{Unsigned, Signed}
-use Rattle.first_bytes.specs.declared.Form.{Form}
-use Rattle.first_bytes.specs.declared.Form.the-variants.{Unused, Scalar, Array, Map}
 use Rattle.values.specs.Number.{number}
+use Rattle.scalars.specs.Start.{scalarOf}
+use Rattle.scalars.specs.declared.Start.{Start}
+use Rattle.scalars.specs.declared.Start.the-variants.{Here, Elsewhere}
 use Rattle.scalars.specs.declared.Natural.{Natural}
 use Rattle.scalars.specs.declared.Natural.the-variants.{Is, Cut, Other}
 use Rattle.scalars.specs.declared.Int.{Int}
@@ -21,38 +22,40 @@ unfoldable pub naturalOf : ℕ → ℕ → Bytes → ℕ
 naturalOf b zero s = b
 naturalOf b (suc f) s = number (take (suc f) s)
 
--- "Unsigned" means forms 00 to 7f and cc to cf: the first bytes of kind Unsigned (the law `unsigned-bytes`)
-unfoldable pub unsignedBy : Form → ℕ → Bytes → Natural
-unsignedBy Unused b s = Other
-unsignedBy (Scalar k w f) b s = pick (sameKind k Unsigned) (pick (leb f (length s)) (Is (naturalOf b f s) (1 + f)) Cut) Other
-unsignedBy (Array w f) b s = Other
-unsignedBy (Map w f) b s = Other
+unfoldable pub unsignedIn : Start → ℕ → Bytes → Natural
+unsignedIn (Here w f) b s = pick (leb f (length s)) (Is (naturalOf b f s) (1 + f)) Cut
+unsignedIn Elsewhere b s = Other
 
+-- "Unsigned" means forms 00 to 7f and cc to cf: the first bytes of kind Unsigned (computed in Examples)
 unfoldable pub unsigned : Bytes → Natural
 unsigned [] = Cut
-unsigned (b ∷ s) = unsignedBy (formOf b) b s
+unsigned (b ∷ s) = unsignedIn (scalarOf Unsigned (formOf b)) b s
 
--- the number of n as w bytes in two's complement; BelowZero m is -1 - m
+-- the number that w bytes are in two's complement; BelowZero m is -1 - m
 unfoldable pub twosComplement : ℕ → ℕ → Int
 twosComplement w n = pick (ltb n (2 ^ (8 * w - 1))) (FromZero n) (BelowZero (2 ^ (8 * w) - 1 - n))
 
--- negative fixint: a byte from e0 up is that byte less 256
+-- a byte from e0 up alone is that byte less 256
 unfoldable pub signedOf : ℕ → ℕ → Bytes → Int
 signedOf b zero s = BelowZero (255 - b)
 signedOf b (suc f) s = twosComplement (suc f) (number (take (suc f) s))
 
--- "Integer" adds e0 to ff and d0 to d3, range -2^63 to 2^64-1
-unfoldable pub integerBy : Form → ℕ → Bytes → Integer
-integerBy Unused b s = OtherInt
-integerBy (Scalar k w f) b s =
-    pick (sameKind k Unsigned) (pick (leb f (length s)) (IsInt (FromZero (naturalOf b f s)) (1 + f)) CutInt)
-    (pick (sameKind k Signed) (pick (leb f (length s)) (IsInt (signedOf b f s) (1 + f)) CutInt) OtherInt)
-integerBy (Array w f) b s = OtherInt
-integerBy (Map w f) b s = OtherInt
+unfoldable pub signedIn : Start → ℕ → Bytes → Integer
+signedIn (Here w f) b s = pick (leb f (length s)) (IsInt (signedOf b f s) (1 + f)) CutInt
+signedIn Elsewhere b s = OtherInt
 
+unfoldable pub signed : Bytes → Integer
+signed [] = CutInt
+signed (b ∷ s) = signedIn (scalarOf Signed (formOf b)) b s
+
+unfoldable pub adding : Natural → Integer → Integer
+adding (Is n e) z = IsInt (FromZero n) e
+adding Cut z = CutInt
+adding Other z = z
+
+-- "Integer" adds e0 to ff and d0 to d3, range -2^63 to 2^64-1
 unfoldable pub integer : Bytes → Integer
-integer [] = CutInt
-integer (b ∷ s) = integerBy (formOf b) b s
+integer s = adding (unsigned s) (signed s)
 
 -- the same, counted from k bytes before
 abbrev pub shiftNatural : ℕ → Natural → Natural

@@ -5,9 +5,11 @@ use values::Number;
 use values::Read;
 ghost use mathlib.Core.Path.{_≡_};
 ghost use Prim.Native.Nat.{_+_, _*_, _^_, _<_, _≤_};
-ghost use lib.ListN.{length, take, drop};
-ghost use Rattle.scalars.specs.Integer.{unsigned, integer, shiftNatural, shiftInteger};
-ghost use Rattle.scalars.specs.Header.{header, stringBy, arrayBy, mapBy, shiftHeader};
+ghost use lib.ListN.{length, take, drop, getD};
+ghost use Rattle.scalars.specs.Start.{scalarOf, stringBy, arrayBy, mapBy};
+ghost use Rattle.scalars.specs.Integer.{naturalOf, twosComplement, signedOf, signed, unsigned, integer, shiftNatural, shiftInteger};
+ghost use Rattle.scalars.specs.Header.{counted, header, shiftHeader};
+ghost use Rattle.scalars.specs.Meaning.{alone};
 
 // An unsigned number and the place after it; cut short; or the first byte starts none.
 pub enum Natural {
@@ -27,6 +29,12 @@ pub enum Integer {
     Is(Int, usize),
     Cut,
     Other,
+}
+
+// Whether a form begins what is asked for: its length bytes, and what is due by its first byte.
+pub enum Start {
+    Here(usize, usize),
+    Elsewhere,
 }
 
 // A length or a count, and the place after the header; or none of the kind asked for.
@@ -56,4 +64,75 @@ pub struct Alone {
     pub number: u32,
     pub length: usize,
     pub meaning: Meaning,
+}
+
+// The start of a scalar of one kind.
+fn scalar_start(kind: Kind, form: Form) -> Start
+    ensures { λ r. ⌜ r ≡ scalarOf kind form ⌝ }
+{
+    match form {
+        Form::Unused => Start::Elsewhere,
+        Form::Scalar(found, width, fixed) => {
+            if first_bytes::same_kind(found, kind) {
+                Start::Here(width, fixed)
+            } else {
+                Start::Elsewhere
+            }
+        }
+        Form::Array(_, _) => Start::Elsewhere,
+        Form::Map(_, _) => Start::Elsewhere,
+    }
+}
+
+fn array_start(form: Form) -> Start
+    ensures { λ r. ⌜ r ≡ arrayBy form ⌝ }
+{
+    match form {
+        Form::Unused => Start::Elsewhere,
+        Form::Scalar(_, _, _) => Start::Elsewhere,
+        Form::Array(width, fixed) => Start::Here(width, fixed),
+        Form::Map(_, _) => Start::Elsewhere,
+    }
+}
+
+// In entries: the first byte counts a key and a value for each.
+fn map_start(form: Form) -> Start
+    ensures { λ r. ⌜ r ≡ mapBy form ⌝ }
+{
+    match form {
+        Form::Unused => Start::Elsewhere,
+        Form::Scalar(_, _, _) => Start::Elsewhere,
+        Form::Array(_, _) => Start::Elsewhere,
+        Form::Map(width, fixed) => Start::Here(width, fixed / 2),
+    }
+}
+
+// The number of the first byte at `at` and the `more` bytes due after it.
+fn natural_of(s: &[u8], at: usize, more: usize) -> u64
+    requires { ⌜ (more ≤ 8) × (at + 1 + more ≤ length (now s)) ⌝ }
+    ensures { λ r. ⌜ r ≡ naturalOf (getD (now (s .entry)) at 0) more (drop (at + 1) (now (s .entry))) ⌝ }
+{
+    if more == 0 {
+        return s[at] as u64;
+    }
+    let Number::Is(n) = values::number_at(s, at + 1, more) else {
+        return 0;
+    };
+    n
+}
+
+// The unsigned number at `at`.
+pub fn unsigned_at(s: &[u8], at: usize) -> Natural
+    ensures { λ r. ⌜ r ≡ shiftNatural at (unsigned (drop at (now (s .entry)))) ⌝ }
+{
+    if s.len() <= at {
+        return Natural::Cut;
+    }
+    let Start::Here(_, more) = scalar_start(Kind::Unsigned, first_bytes::form_of(s[at])) else {
+        return Natural::Other;
+    };
+    if s.len() - at <= more {
+        return Natural::Cut;
+    }
+    Natural::Is(natural_of(s, at, more), at + 1 + more)
 }

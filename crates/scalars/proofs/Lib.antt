@@ -1,0 +1,2 @@
+-- Laws of numbers, headers and meanings. Assumes nothing.
+pub mod Laws
