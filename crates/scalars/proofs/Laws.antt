@@ -3,13 +3,13 @@ use mathlib.Core.Path.{_≡_, refl, sym, subst, ap, _∙_}
 use mathlib.Core.List.{List, [], _∷_}
 use mathlib.Core.Bool.{Bool, true, false}
 use Prim.Native.Nat.{ℕ, zero, suc, _+_, _-_, _*_, _^_, _<_, _≤_}
-use native.Mathlib.Nat.{add-assoc}
+use native.Mathlib.Nat.{add-assoc, add-zero}
 use native.Mathlib.Numerals.{add-one}
 use native.Mathlib.Omega.{arith}
-use borrow.Author.Tests.{le-leb, lt-leb}
+use borrow.Author.Tests.{leb-true, le-leb, lt-leb}
 use lib.Dec.{T, leb, leb→le}
 use lib.ListN.{length, take, drop, getD, length-drop, drop-of-length-le}
-use lib.Seq.{drop-cons, drop-drop}
+use lib.Seq.{drop-cons, drop-drop, getD-drop}
 use Rattle.first_bytes.specs.Bytes.{Bytes, pick}
 use Rattle.first_bytes.specs.FirstByte.{formOf, sameKind}
 use Rattle.first_bytes.specs.declared.Kind.{Kind}
@@ -20,12 +20,12 @@ use Rattle.values.specs.Number.{number, numberAt}
 use Rattle.values.specs.declared.Number.the-variants.{Is as IsNumber}
 use Rattle.values.proofs.Laws.{number-is}
 use Rattle.scalars.specs.Start.{scalarOf, arrayBy, mapBy}
-use Rattle.scalars.specs.Integer.{naturalOf, unsignedIn, unsigned, signedOf, signedIn, signed, shiftNatural, shiftInteger}
+use Rattle.scalars.specs.Integer.{dueIn, due, naturalOf, signedOf, twosComplement}
 use Rattle.scalars.specs.Header.{counted, header, shiftHeader}
 use Rattle.scalars.specs.declared.Start.{Start}
 use Rattle.scalars.specs.declared.Start.the-variants.{Here, Elsewhere}
-use Rattle.scalars.specs.declared.Natural.the-variants.{Is, Cut, Other}
-use Rattle.scalars.specs.declared.Integer.the-variants.{Is as IsInt, Cut as CutInt, Other as OtherInt}
+use Rattle.scalars.specs.declared.Due.{Due}
+use Rattle.scalars.specs.declared.Due.the-variants.{More, Cut, Other}
 use Rattle.scalars.specs.declared.Header.the-variants.{Is as IsHeader, Other as OtherHeader}
 
 -- ---- what a first byte asks for is little: one test over all 256 for each kind of start
@@ -65,31 +65,53 @@ map-little = start-little mapBy 31 tt
 
 -- ---- numbers
 
-pub natural-more : (s : Bytes) (at f n : ℕ) (b : ℕ) → 0 < f → IsNumber n ≡ numberAt f (at + 1) s → n ≡ naturalOf b f (drop (at + 1) s)
-unfolding naturalOf
-natural-more s at zero n b h e = absurd (omega arith)
-natural-more s at (suc f) n b h e = number-is (suc f) (at + 1) n s e .1
-
-pub unsigned-end : (s : Bytes) (at : ℕ) → length s ≤ at → Cut ≡ shiftNatural at (unsigned (drop at s))
-unfolding unsigned
-unsigned-end s at h = rw (drop-of-length-le s h)
+pub due-end : (k : Kind) (s : Bytes) (at : ℕ) → length s ≤ at → Cut ≡ due k (drop at s)
+unfolding due
+due-end k s at h = rw (drop-of-length-le s h)
 
 -- a byte is left
-pub unsigned-start : (s : Bytes) (at : ℕ) (x : Start) → at < length s → x ≡ scalarOf Unsigned (formOf (getD s at 0))
-    → unsigned (drop at s) ≡ unsignedIn x (getD s at 0) (drop (at + 1) s)
-unfolding unsigned
-unsigned-start s at x h e = rw (e, add-one, drop-cons s at 0 h)
+pub due-start : (k : Kind) (s : Bytes) (at : ℕ) (x : Start) → at < length s → x ≡ scalarOf k (formOf (getD s at 0)) → due k (drop at s) ≡ dueIn x (drop (at + 1) s)
+unfolding due
+due-start k s at x h e = rw (e, add-one, drop-cons s at 0 h)
 
-pub unsigned-cut : (s : Bytes) (at w f : ℕ) → at < length s → Here w f ≡ scalarOf Unsigned (formOf (getD s at 0)) → length s - at ≤ f
-    → Cut ≡ shiftNatural at (unsigned (drop at s))
-unfolding unsignedIn
-unsigned-cut s at w f h e k =
+pub due-cut : (s : Bytes) (at w f : ℕ) → length s - at ≤ f → at < length s → Cut ≡ dueIn (Here w f) (drop (at + 1) s)
+unfolding dueIn
+due-cut s at w f k h =
     let l : length (drop (at + 1) s) < f = simp length-drop (omega arith) in
-    rw (unsigned-start s at (Here w f) h e, lt-leb f (length (drop (at + 1) s)) l)
+    rw (lt-leb f (length (drop (at + 1) s)) l)
 
-pub unsigned-is : (s : Bytes) (at w f : ℕ) → at < length s → Here w f ≡ scalarOf Unsigned (formOf (getD s at 0)) → f < length s - at
-    → Is (naturalOf (getD s at 0) f (drop (at + 1) s)) (at + 1 + f) ≡ shiftNatural at (unsigned (drop at s))
-unfolding unsignedIn
-unsigned-is s at w f h e k =
+pub due-more : (s : Bytes) (at w f : ℕ) → f < length s - at → More f ≡ dueIn (Here w f) (drop (at + 1) s)
+unfolding dueIn
+due-more s at w f k =
     let l : f ≤ length (drop (at + 1) s) = simp length-drop (omega arith) in
-    rw (unsigned-start s at (Here w f) h e, le-leb f (length (drop (at + 1) s)) l, add-assoc at 1 f)
+    rw (le-leb f (length (drop (at + 1) s)) l)
+
+-- what is due is there, and of a number it is little
+module _ (k : Kind) (few : (b w f : ℕ) → b < 256 → Here w f ≡ scalarOf k (formOf b) → (w ≤ 4) × (f ≤ 8)) where
+  due-few : (f : ℕ) (t : Bytes) → getD t 0 0 < 256 → More f ≡ due k t → (f ≤ 8) × (1 + f ≤ length t)
+  unfolding due dueIn
+  due-few f [] h e = absurd (let z : _≡_ {A = ℕ} 0 1 = cc in omega arith)
+  due-few f (b ∷ t) h e = go (scalarOf k (formOf b)) refl e
+    where
+      pass : (w g : ℕ) (c : Bool) → leb g (length t) ≡ c → Here w g ≡ scalarOf k (formOf b) → More f ≡ pick c (More g) Cut → (f ≤ 8) × (1 + f ≤ suc (length t))
+      pass w g true q s e =
+          let i : f ≡ g = cc in
+          let l = leb-true g (length t) q in
+          let m = few b w g h s in
+          (omega arith, omega arith)
+      pass w g false q s e = absurd (let z : _≡_ {A = ℕ} 0 1 = cc in omega arith)
+
+      go : (x : Start) → scalarOf k (formOf b) ≡ x → More f ≡ dueIn x t → (f ≤ 8) × (1 + f ≤ suc (length t))
+      go (Here w g) s e = pass w g (leb g (length t)) refl (sym s) e
+      go Elsewhere s e = absurd (let z : _≡_ {A = ℕ} 0 1 = cc in omega arith)
+
+  pub due-there : (s : Bytes) (at f : ℕ) → getD s at 0 < 256 → More f ≡ due k (drop at s) → (f ≤ 8) × (at + (1 + f) ≤ length s)
+  due-there s at f h e =
+      let r = due-few f (drop at s) (rw (getD-drop, add-zero) h) e in
+      let l = simp length-drop at (r .1) in
+      (r .0, omega arith)
+
+pub natural-more : (s : Bytes) (at f n : ℕ) → 0 < f → IsNumber n ≡ numberAt f (at + 1) s → n ≡ naturalOf f (drop at s)
+unfolding naturalOf
+natural-more s at zero n h e = absurd (omega arith)
+natural-more s at (suc f) n h e = number-is (suc f) (at + 1) n s e .1 ∙ rw drop-drop

@@ -4,10 +4,11 @@ use first_bytes::Kind;
 use values::Number;
 use values::Read;
 ghost use mathlib.Core.Path.{_≡_};
-ghost use Prim.Native.Nat.{_+_, _*_, _^_, _<_, _≤_};
+ghost use Prim.Native.Nat.{_+_, _-_, _*_, _^_, _<_, _≤_};
 ghost use lib.ListN.{length, take, drop, getD};
+ghost use Rattle.first_bytes.specs.declared.Kind.the-variants.{Signed};
 ghost use Rattle.scalars.specs.Start.{scalarOf, stringBy, arrayBy, mapBy};
-ghost use Rattle.scalars.specs.Integer.{naturalOf, twosComplement, signedOf, signed, unsigned, integer, shiftNatural, shiftInteger};
+ghost use Rattle.scalars.specs.Integer.{due, naturalOf, signedOf, signedBy, unsigned, integer, shiftNatural, shiftInteger};
 ghost use Rattle.scalars.specs.Header.{counted, header, shiftHeader};
 ghost use Rattle.scalars.specs.Meaning.{alone};
 
@@ -35,6 +36,13 @@ pub enum Integer {
 pub enum Start {
     Here(usize, usize),
     Elsewhere,
+}
+
+// How many bytes are due after the first byte of a number of one kind, and there.
+pub enum Due {
+    More(usize),
+    Cut,
+    Other,
 }
 
 // A length or a count, and the place after the header; or none of the kind asked for.
@@ -107,10 +115,26 @@ fn map_start(form: Form) -> Start
     }
 }
 
+// The number of one kind at `at`, as far as its first byte says.
+fn due_at(s: &[u8], at: usize, kind: Kind) -> Due
+    ensures { λ r. ⌜ r ≡ due kind (drop at (now (s .entry))) ⌝ }
+{
+    if s.len() <= at {
+        return Due::Cut;
+    }
+    let Start::Here(_, more) = scalar_start(kind, first_bytes::form_of(s[at])) else {
+        return Due::Other;
+    };
+    if s.len() - at <= more {
+        return Due::Cut;
+    }
+    Due::More(more)
+}
+
 // The number of the first byte at `at` and the `more` bytes due after it.
 fn natural_of(s: &[u8], at: usize, more: usize) -> u64
     requires { ⌜ (more ≤ 8) × (at + 1 + more ≤ length (now s)) ⌝ }
-    ensures { λ r. ⌜ r ≡ naturalOf (getD (now (s .entry)) at 0) more (drop (at + 1) (now (s .entry))) ⌝ }
+    ensures { λ r. ⌜ r ≡ naturalOf more (drop at (now (s .entry))) ⌝ }
 {
     if more == 0 {
         return s[at] as u64;
@@ -125,14 +149,9 @@ fn natural_of(s: &[u8], at: usize, more: usize) -> u64
 pub fn unsigned_at(s: &[u8], at: usize) -> Natural
     ensures { λ r. ⌜ r ≡ shiftNatural at (unsigned (drop at (now (s .entry)))) ⌝ }
 {
-    if s.len() <= at {
-        return Natural::Cut;
+    match due_at(s, at, Kind::Unsigned) {
+        Due::More(more) => Natural::Is(natural_of(s, at, more), at + (1 + more)),
+        Due::Cut => Natural::Cut,
+        Due::Other => Natural::Other,
     }
-    let Start::Here(_, more) = scalar_start(Kind::Unsigned, first_bytes::form_of(s[at])) else {
-        return Natural::Other;
-    };
-    if s.len() - at <= more {
-        return Natural::Cut;
-    }
-    Natural::Is(natural_of(s, at, more), at + 1 + more)
 }

@@ -1,7 +1,9 @@
 -- The first byte itself, or the bytes after it. Assumes nothing.
 use native.Mathlib.Omega.{arith}
+use native.Mathlib.Nat.{add-zero}
 use Prim.Native.Nat.{_+_}
 use mathlib.Core.Path.{sym, _∙_}
+use lib.Seq.{getD-drop}
 use Rattle.values.proofs.Laws.{number-missing}
 use Rattle.scalars.specs.Integer.{naturalOf}
 use Rattle.scalars.proofs.Laws.{natural-more}
@@ -17,7 +19,7 @@ cast-result c = omega (arith, c .shared-slice-known2 .given (c .before .before .
 
 returns : tie.Need-returns
 unfolding naturalOf
-returns c = rw (c .before .if1 .taken)
+returns c = rw (c .before .if1 .taken) (rw (getD-drop, add-zero))
 
 add-number-at : tie.Need-add-number-at
 add-number-at c = search needs
@@ -40,7 +42,7 @@ returns-2 c =
 returns-3 : tie.Need-returns-3
 returns-3 c =
     let a = c .before .before .before .before .before .before .args in
-    natural-more (a .s .now) (a .at) (a .more) (c .before .n .given .0 .0) _ (omega arith) (sym (c .before .n .given .1) ∙ c .before .before .before .number-at .ensures .0)
+    natural-more (a .s .now) (a .at) (a .more) (c .before .n .given .0 .0) (omega arith) (sym (c .before .n .given .1) ∙ c .before .before .before .number-at .ensures .0)
 
 pub natural-of-spec : {M : Type 1} → statement M
 natural-of-spec =
