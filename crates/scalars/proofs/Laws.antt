@@ -6,8 +6,9 @@ use Prim.Native.Nat.{ℕ, zero, suc, _+_, _-_, _*_, _^_, _<_, _≤_}
 use native.Mathlib.Nat.{add-assoc, add-zero}
 use native.Mathlib.Numerals.{add-one}
 use native.Mathlib.Omega.{arith}
-use borrow.Author.Tests.{leb-true, le-leb, lt-leb}
+use borrow.Author.Tests.{leb-true, le-leb, lt-leb, lt-ltb, le-ltb}
 use lib.Dec.{T, leb, leb→le}
+use lib.Pow.{pow-add}
 use lib.ListN.{length, take, drop, getD, length-drop, drop-of-length-le}
 use lib.Seq.{drop-cons, drop-drop, getD-drop}
 use Rattle.first_bytes.specs.Bytes.{Bytes, pick}
@@ -20,10 +21,15 @@ use Rattle.values.specs.Number.{number, numberAt}
 use Rattle.values.specs.declared.Number.the-variants.{Is as IsNumber}
 use Rattle.values.proofs.Laws.{number-is}
 use Rattle.scalars.specs.Start.{scalarOf, arrayBy, mapBy}
-use Rattle.scalars.specs.Integer.{dueIn, due, naturalOf, signedOf, twosComplement}
+use Rattle.scalars.specs.Integer.{dueIn, due, naturalOf, unsigned, twosComplement, signedOf, signed, adding, integer, shiftNatural, shiftInteger}
 use Rattle.scalars.specs.Header.{counted, header, shiftHeader}
 use Rattle.scalars.specs.declared.Start.{Start}
 use Rattle.scalars.specs.declared.Start.the-variants.{Here, Elsewhere}
+use Rattle.scalars.specs.declared.Int.the-variants.{FromZero, BelowZero}
+use Rattle.scalars.specs.declared.Natural.{Natural}
+use Rattle.scalars.specs.declared.Natural.the-variants.{Is as IsNat, Cut as CutNat, Other as OtherNat}
+use Rattle.scalars.specs.declared.Integer.{Integer}
+use Rattle.scalars.specs.declared.Integer.the-variants.{Is as IsInt, Cut as CutInt, Other as OtherInt}
 use Rattle.scalars.specs.declared.Due.{Due}
 use Rattle.scalars.specs.declared.Due.the-variants.{More, Cut, Other}
 use Rattle.scalars.specs.declared.Header.the-variants.{Is as IsHeader, Other as OtherHeader}
@@ -115,3 +121,59 @@ pub natural-more : (s : Bytes) (at f n : ℕ) → 0 < f → IsNumber n ≡ numbe
 unfolding naturalOf
 natural-more s at zero n h e = absurd (omega arith)
 natural-more s at (suc f) n h e = number-is (suc f) (at + 1) n s e .1 ∙ rw drop-drop
+
+-- two's complement, by the sign bit h
+pub doubled : (f : ℕ) → 0 < f → 2 ^ (8 * f) ≡ 2 ^ (8 * f - 1) + 2 ^ (8 * f - 1)
+doubled f h =
+    let e : 8 * f ≡ 8 * f - 1 + 1 = omega arith in
+    let p : 2 ^ (8 * f - 1 + 1) ≡ 2 ^ (8 * f - 1) * 2 ^ 1 = pow-add 2 (8 * f - 1) 1 in
+    ap (λ (k : ℕ). 2 ^ k) e ∙ p ∙ omega arith
+
+pub signed-low : (s : Bytes) (f n h : ℕ) → 0 < f → n ≡ naturalOf f s → h ≡ 2 ^ (8 * f - 1) → n < h → FromZero n ≡ signedOf f s
+unfolding signedOf twosComplement
+signed-low s zero n h k e g l = absurd (omega arith)
+signed-low s (suc f) n h k e g l =
+    let m : n < 2 ^ (8 * suc f - 1) = rw (← g) l in
+    rw (← e, lt-ltb n (2 ^ (8 * suc f - 1)) m)
+
+pub signed-high : (s : Bytes) (f n h : ℕ) → 0 < f → n ≡ naturalOf f s → h ≡ 2 ^ (8 * f - 1) → h ≤ n → n < 2 ^ (8 * f) → BelowZero (h - 1 - (n - h)) ≡ signedOf f s
+unfolding signedOf twosComplement
+signed-high s zero n h k e g l b = absurd (omega arith)
+signed-high s (suc f) n h k e g l b =
+    let m : 2 ^ (8 * suc f - 1) ≤ n = rw (← g) l in
+    let d = doubled (suc f) k in
+    let q : h - 1 - (n - h) ≡ 2 ^ (8 * suc f) - 1 - n = omega arith in
+    rw (← e, le-ltb n (2 ^ (8 * suc f - 1)) m) (ap BelowZero q)
+
+-- an integer, by what the unsigned number is
+unsigned-shifted : (P : Natural → Integer → Type 0) (at : ℕ) (s : Bytes)
+    → ((u : Natural) → P (shiftNatural at u) (shiftInteger at (adding u (signed s)))) → P (shiftNatural at (unsigned s)) (shiftInteger at (integer s))
+unfolding integer
+unsigned-shifted P at s h = h (unsigned s)
+
+pub adding-is : (at : ℕ) (s : Bytes) (n e : ℕ) → IsNat n e ≡ shiftNatural at (unsigned s) → IsInt (FromZero n) e ≡ shiftInteger at (integer s)
+unfolding adding
+adding-is at s n e = unsigned-shifted (λ u z. IsNat n e ≡ u → IsInt (FromZero n) e ≡ z) at s go
+  where
+    go : (u : Natural) → IsNat n e ≡ shiftNatural at u → IsInt (FromZero n) e ≡ shiftInteger at (adding u (signed s))
+    go (IsNat m f) q = cc
+    go CutNat q = absurd (let z : _≡_ {A = ℕ} 0 1 = cc in omega arith)
+    go OtherNat q = absurd (let z : _≡_ {A = ℕ} 0 1 = cc in omega arith)
+
+pub adding-cut : (at : ℕ) (s : Bytes) → CutNat ≡ shiftNatural at (unsigned s) → CutInt ≡ shiftInteger at (integer s)
+unfolding adding
+adding-cut at s = unsigned-shifted (λ u z. CutNat ≡ u → CutInt ≡ z) at s go
+  where
+    go : (u : Natural) → CutNat ≡ shiftNatural at u → CutInt ≡ shiftInteger at (adding u (signed s))
+    go (IsNat m f) q = absurd (let z : _≡_ {A = ℕ} 0 1 = cc in omega arith)
+    go CutNat q = refl
+    go OtherNat q = absurd (let z : _≡_ {A = ℕ} 0 1 = cc in omega arith)
+
+pub adding-other : (at : ℕ) (s : Bytes) → OtherNat ≡ shiftNatural at (unsigned s) → shiftInteger at (signed s) ≡ shiftInteger at (integer s)
+unfolding adding
+adding-other at s = unsigned-shifted (λ u z. OtherNat ≡ u → shiftInteger at (signed s) ≡ z) at s go
+  where
+    go : (u : Natural) → OtherNat ≡ shiftNatural at u → shiftInteger at (signed s) ≡ shiftInteger at (adding u (signed s))
+    go (IsNat m f) q = absurd (let z : _≡_ {A = ℕ} 0 1 = cc in omega arith)
+    go CutNat q = absurd (let z : _≡_ {A = ℕ} 0 1 = cc in omega arith)
+    go OtherNat q = refl

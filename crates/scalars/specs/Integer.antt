@@ -57,6 +57,9 @@ signedBy (More f) s = IsInt (signedOf f s) (1 + f)
 signedBy CutDue s = CutInt
 signedBy OtherDue s = OtherInt
 
+unfoldable pub signed : Bytes → Integer
+signed s = signedBy (due Signed s) s
+
 unfoldable pub adding : Natural → Integer → Integer
 adding (Is n e) z = IsInt (FromZero n) e
 adding Cut z = CutInt
@@ -64,7 +67,7 @@ adding Other z = z
 
 -- "Integer" adds e0 to ff and d0 to d3, range -2^63 to 2^64-1
 unfoldable pub integer : Bytes → Integer
-integer s = adding (unsigned s) (signedBy (due Signed s) s)
+integer s = adding (unsigned s) (signed s)
 
 -- the same, counted from k bytes before
 abbrev pub shiftNatural : ℕ → Natural → Natural

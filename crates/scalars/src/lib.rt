@@ -6,9 +6,8 @@ use values::Read;
 ghost use mathlib.Core.Path.{_≡_};
 ghost use Prim.Native.Nat.{_+_, _-_, _*_, _^_, _<_, _≤_};
 ghost use lib.ListN.{length, take, drop, getD};
-ghost use Rattle.first_bytes.specs.declared.Kind.the-variants.{Signed};
 ghost use Rattle.scalars.specs.Start.{scalarOf, stringBy, arrayBy, mapBy};
-ghost use Rattle.scalars.specs.Integer.{due, naturalOf, signedOf, signedBy, unsigned, integer, shiftNatural, shiftInteger};
+ghost use Rattle.scalars.specs.Integer.{due, naturalOf, signedOf, unsigned, signed, integer, shiftNatural, shiftInteger};
 ghost use Rattle.scalars.specs.Header.{counted, header, shiftHeader};
 ghost use Rattle.scalars.specs.Meaning.{alone};
 
@@ -153,5 +152,53 @@ pub fn unsigned_at(s: &[u8], at: usize) -> Natural
         Due::More(more) => Natural::Is(natural_of(s, at, more), at + (1 + more)),
         Due::Cut => Natural::Cut,
         Due::Other => Natural::Other,
+    }
+}
+
+// The sign bit of `width` bytes.
+fn sign_bit(width: usize) -> u64
+    requires { ⌜ (1 ≤ width) × (width ≤ 8) ⌝ }
+    ensures { λ r. ⌜ r ≡ 2 ^ (8 * width - 1) ⌝ }
+{
+    1 << (8 * width - 1)
+}
+
+// The same number in two's complement.
+fn signed_of(s: &[u8], at: usize, more: usize) -> Int
+    requires { ⌜ (more ≤ 8) × (at + 1 + more ≤ length (now s)) ⌝ }
+    ensures { λ r. ⌜ r ≡ signedOf more (drop at (now (s .entry))) ⌝ }
+{
+    if more == 0 {
+        return Int::BelowZero((255 - s[at]) as u64);
+    }
+    let Number::Is(n) = values::number_at(s, at + 1, more) else {
+        return Int::FromZero(0);
+    };
+    let half = sign_bit(more);
+    if n < half {
+        return Int::FromZero(n);
+    }
+    Int::BelowZero(half - 1 - (n - half))
+}
+
+// The integer of a signed form at `at`.
+fn signed_at(s: &[u8], at: usize) -> Integer
+    ensures { λ r. ⌜ r ≡ shiftInteger at (signed (drop at (now (s .entry)))) ⌝ }
+{
+    match due_at(s, at, Kind::Signed) {
+        Due::More(more) => Integer::Is(signed_of(s, at, more), at + (1 + more)),
+        Due::Cut => Integer::Cut,
+        Due::Other => Integer::Other,
+    }
+}
+
+// The integer at `at`.
+pub fn integer_at(s: &[u8], at: usize) -> Integer
+    ensures { λ r. ⌜ r ≡ shiftInteger at (integer (drop at (now (s .entry)))) ⌝ }
+{
+    match unsigned_at(s, at) {
+        Natural::Is(n, end) => Integer::Is(Int::FromZero(n), end),
+        Natural::Cut => Integer::Cut,
+        Natural::Other => signed_at(s, at),
     }
 }
