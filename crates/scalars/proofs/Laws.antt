@@ -14,15 +14,17 @@ use lib.Seq.{drop-cons, drop-drop, getD-drop}
 use Rattle.first_bytes.specs.Bytes.{Bytes, pick}
 use Rattle.first_bytes.specs.FirstByte.{formOf, sameKind}
 use Rattle.first_bytes.specs.declared.Kind.{Kind}
-use Rattle.first_bytes.specs.declared.Kind.the-variants.{Unsigned, Signed, String}
+use Rattle.first_bytes.specs.declared.Kind.the-variants.{Unsigned, Signed}
 use Rattle.first_bytes.specs.declared.Form.{Form}
-use Rattle.first_bytes.proofs.Range.{both, both-left, both-right, all-at}
+use Rattle.first_bytes.proofs.Range.{both, both-left, both-right, all, all-at}
 use Rattle.values.specs.Number.{number, numberAt}
 use Rattle.values.specs.declared.Number.the-variants.{Is as IsNumber}
 use Rattle.values.proofs.Laws.{number-is}
-use Rattle.scalars.specs.Start.{scalarOf, arrayBy, mapBy}
+use Rattle.scalars.specs.Start.{scalarOf, stringBy, arrayBy, mapBy, startBy, Few}
 use Rattle.scalars.specs.Integer.{dueIn, due, naturalOf, unsigned, twosComplement, signedOf, signed, adding, integer, shiftNatural, shiftInteger}
 use Rattle.scalars.specs.Header.{counted, header, shiftHeader}
+use Rattle.scalars.specs.declared.Opening.{Opening}
+use Rattle.scalars.specs.declared.Opening.the-variants.{String as Strings, Array as Arrays, Map as Maps}
 use Rattle.scalars.specs.declared.Start.{Start}
 use Rattle.scalars.specs.declared.Start.the-variants.{Here, Elsewhere}
 use Rattle.scalars.specs.declared.Int.the-variants.{FromZero, BelowZero}
@@ -44,30 +46,32 @@ is-little : (a b w f : ℕ) → T (little a b (Here w f)) → (w ≤ a) × (f �
 unfolding little
 is-little a b w f t = (leb→le w a (both-left (leb w a) (leb f b) t), leb→le f b (both-right (leb w a) (leb f b) t))
 
-module _ (by : Form → Start) (most : ℕ) where
-  start-little : T (Rattle.first_bytes.proofs.Range.all (λ b. little 4 most (by (formOf b))) 0 256) → (b w f : ℕ) → b < 256 → Here w f ≡ by (formOf b) → (w ≤ 4) × (f ≤ most)
-  start-little t b w f h e =
-      is-little 4 most w f (subst (λ (x : Start). T (little 4 most x)) (sym e) (all-at (λ b. little 4 most (by (formOf b))) 0 256 t b (omega arith) (omega arith)))
+abbrev fewAt : (Form → Start) → ℕ → ℕ → Bool
+fewAt by most b = little 4 most (by (formOf b))
+
+start-little : (by : Form → Start) (most : ℕ) → T (all (fewAt by most) 0 256) → (b : ℕ) → b < 256 → T (little 4 most (by (formOf b)))
+start-little by most t b h = all-at (fewAt by most) 0 256 t b (omega arith) (omega arith)
+
+number-little : (k : Kind) → T (all (fewAt (scalarOf k) 8) 0 256) → (b w f : ℕ) → b < 256 → Here w f ≡ scalarOf k (formOf b) → (w ≤ 4) × (f ≤ 8)
+number-little k t b w f h e = is-little 4 8 w f (subst (λ (x : Start). T (little 4 8 x)) (sym e) (start-little (scalarOf k) 8 t b h))
 
 pub unsigned-little : (b w f : ℕ) → b < 256 → Here w f ≡ scalarOf Unsigned (formOf b) → (w ≤ 4) × (f ≤ 8)
 unfolding little formOf sameKind
-unsigned-little = start-little (scalarOf Unsigned) 8 tt
+unsigned-little = number-little Unsigned tt
 
 pub signed-little : (b w f : ℕ) → b < 256 → Here w f ≡ scalarOf Signed (formOf b) → (w ≤ 4) × (f ≤ 8)
 unfolding little formOf sameKind
-signed-little = start-little (scalarOf Signed) 8 tt
+signed-little = number-little Signed tt
 
-pub string-little : (b w f : ℕ) → b < 256 → Here w f ≡ scalarOf String (formOf b) → (w ≤ 4) × (f ≤ 31)
+few : (x : Start) → T (little 4 31 x) → Few x
+few (Here w f) t = is-little 4 31 w f t
+few Elsewhere t = tt
+
+pub start-few : (o : Opening) (b : ℕ) → b < 256 → Few (startBy o (formOf b))
 unfolding little formOf sameKind
-string-little = start-little (scalarOf String) 31 tt
-
-pub array-little : (b w f : ℕ) → b < 256 → Here w f ≡ arrayBy (formOf b) → (w ≤ 4) × (f ≤ 31)
-unfolding little formOf
-array-little = start-little arrayBy 31 tt
-
-pub map-little : (b w f : ℕ) → b < 256 → Here w f ≡ mapBy (formOf b) → (w ≤ 4) × (f ≤ 31)
-unfolding little formOf
-map-little = start-little mapBy 31 tt
+start-few Strings b h = few (stringBy (formOf b)) (start-little stringBy 31 tt b h)
+start-few Arrays b h = few (arrayBy (formOf b)) (start-little arrayBy 31 tt b h)
+start-few Maps b h = few (mapBy (formOf b)) (start-little mapBy 31 tt b h)
 
 -- ---- numbers
 
@@ -177,3 +181,26 @@ adding-other at s = unsigned-shifted (λ u z. OtherNat ≡ u → shiftInteger at
     go (IsNat m f) q = absurd (let z : _≡_ {A = ℕ} 0 1 = cc in omega arith)
     go CutNat q = absurd (let z : _≡_ {A = ℕ} 0 1 = cc in omega arith)
     go OtherNat q = refl
+
+-- ---- headers
+
+pub header-end : (by : Form → Start) (s : Bytes) (at : ℕ) → length s ≤ at → OtherHeader ≡ shiftHeader at (header by (drop at s))
+unfolding header
+header-end by s at h = rw (drop-of-length-le s h)
+
+pub header-start : (by : Form → Start) (s : Bytes) (at : ℕ) → at < length s → header by (drop at s) ≡ counted (by (formOf (getD s at 0))) (drop (at + 1) s)
+unfolding header
+header-start by s at h = rw (add-one, drop-cons s at 0 h)
+
+pub counted-cut : (s : Bytes) (at w f : ℕ) → length s < at + 1 + w → at < length s → OtherHeader ≡ shiftHeader at (counted (Here w f) (drop (at + 1) s))
+unfolding counted
+counted-cut s at w f h k =
+    let l : length (drop (at + 1) s) < w = simp length-drop (omega arith) in
+    rw (lt-leb w (length (drop (at + 1) s)) l)
+
+pub counted-is : (s : Bytes) (at w f n : ℕ) → at + 1 + w ≤ length s → n ≡ number (take w (drop (at + 1) s))
+    → IsHeader (n + f) (at + (1 + w)) ≡ shiftHeader at (counted (Here w f) (drop (at + 1) s))
+unfolding counted
+counted-is s at w f n h e =
+    let l : w ≤ length (drop (at + 1) s) = simp length-drop (omega arith) in
+    rw (← e, le-leb w (length (drop (at + 1) s)) l)

@@ -6,7 +6,7 @@ use values::Read;
 ghost use mathlib.Core.Path.{_≡_};
 ghost use Prim.Native.Nat.{_+_, _-_, _*_, _^_, _<_, _≤_};
 ghost use lib.ListN.{length, take, drop, getD};
-ghost use Rattle.scalars.specs.Start.{scalarOf, stringBy, arrayBy, mapBy};
+ghost use Rattle.scalars.specs.Start.{scalarOf, arrayBy, mapBy, startBy, Few};
 ghost use Rattle.scalars.specs.Integer.{due, naturalOf, signedOf, unsigned, signed, integer, shiftNatural, shiftInteger};
 ghost use Rattle.scalars.specs.Header.{counted, header, shiftHeader};
 ghost use Rattle.scalars.specs.Meaning.{alone};
@@ -42,6 +42,13 @@ pub enum Due {
     More(usize),
     Cut,
     Other,
+}
+
+// Whose header is asked for.
+pub enum Opening {
+    String,
+    Array,
+    Map,
 }
 
 // A length or a count, and the place after the header; or none of the kind asked for.
@@ -111,6 +118,16 @@ fn map_start(form: Form) -> Start
         Form::Scalar(_, _, _) => Start::Elsewhere,
         Form::Array(_, _) => Start::Elsewhere,
         Form::Map(width, fixed) => Start::Here(width, fixed / 2),
+    }
+}
+
+fn start_of(opening: Opening, form: Form) -> Start
+    ensures { λ r. ⌜ r ≡ startBy opening form ⌝ }
+{
+    match opening {
+        Opening::String => scalar_start(Kind::String, form),
+        Opening::Array => array_start(form),
+        Opening::Map => map_start(form),
     }
 }
 
@@ -201,4 +218,29 @@ pub fn integer_at(s: &[u8], at: usize) -> Integer
         Natural::Cut => Integer::Cut,
         Natural::Other => signed_at(s, at),
     }
+}
+
+// What a header says: `fixed` by its first byte at `at`, and more by the `width` bytes after it.
+fn counted_at(s: &[u8], at: usize, start: Start) -> Header
+    requires { ⌜ (at < length (now s)) × Few start ⌝ }
+    ensures { λ r. ⌜ r ≡ shiftHeader at (counted start (drop (at + 1) (now (s .entry)))) ⌝ }
+{
+    let Start::Here(width, fixed) = start else {
+        return Header::Other;
+    };
+    let Number::Is(n) = values::number_at(s, at + 1, width) else {
+        return Header::Other;
+    };
+    Header::Is(n as usize + fixed, at + (1 + width))
+}
+
+// The header at `at` of a string (its length), an array or a map (its count).
+pub fn header_at(s: &[u8], at: usize, opening: Opening) -> Header
+    ensures { λ r. ⌜ r ≡ shiftHeader at (header (startBy opening) (drop at (now (s .entry)))) ⌝ }
+{
+    if s.len() <= at {
+        return Header::Other;
+    }
+    let start = start_of(opening, first_bytes::form_of(s[at]));
+    counted_at(s, at, start)
 }
