@@ -1,2 +1,4 @@
 -- Laws of numbers, headers and meanings. Assumes nothing.
 pub mod Laws
+pub mod Whole
+pub mod Nans

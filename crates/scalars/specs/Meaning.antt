@@ -4,8 +4,8 @@ use mathlib.Core.Bool.{Bool}
 use lib.Dec.{eqb}
 use lib.Ieee.{binary32, binary64, ofBits}
 use lib.ListN.{getD}
-use Rattle.first_bytes.specs.Bytes.{Bytes}
-use Rattle.first_bytes.specs.FirstByte.{formOf}
+use Rattle.first_bytes.specs.Bytes.{Bytes, pick}
+use Rattle.first_bytes.specs.FirstByte.{formOf, sameKind}
 use Rattle.first_bytes.specs.declared.Kind.{Kind}
 use Rattle.first_bytes.specs.declared.Kind.the-variants.{Nil, Boolean, Unsigned, Signed, Float32, Float64, String, Bin, Ext}
 use Rattle.first_bytes.specs.declared.Form.{Form}
@@ -48,6 +48,10 @@ ofFloat32 Missing = Absent
 unfoldable pub ofFloat64 : Number → Meaning
 ofFloat64 (Is n) = MeansFloat64 (ofBits binary64 n) n
 ofFloat64 Missing = Absent
+
+-- an ext's type
+unfoldable pub typeBytes : Kind → ℕ
+typeBytes k = pick (sameKind k Ext) 1 0
 
 -- a scalar of n bytes in all, w of them length bytes: its meaning, or the place of its content; an ext's type stands before its content
 unfoldable pub scalarMeaning : Kind → ℕ → Bytes → ℕ → Meaning
