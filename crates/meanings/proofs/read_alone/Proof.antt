@@ -1,11 +1,11 @@
 -- Whole with its meaning, or 4. Assumes nothing.
 use mathlib.Core.Path.{_≡_, sym, _∙_}
 use Rattle.values.specs.Value.{value}
-use Rattle.scalars.specs.Meaning.{alone, aloneBy}
-use Rattle.scalars.proofs.Whole.{shift-none}
+use Rattle.meanings.specs.Meaning.{alone, aloneBy}
+use Rattle.meanings.proofs.Whole.{shift-none}
 use borrow.Author.Needs.{needs}
-use Rattle.scalars.proofs.read_alone.Statement.{statement}
-use Rattle.scalars.proofs.read_alone.Tie as tie
+use Rattle.meanings.proofs.read_alone.Statement.{statement}
+use Rattle.meanings.proofs.read_alone.Tie as tie
 
 read-front : (c : tie.After-read-value) → value 16 (c .before .before .args .s .now) ≡ c .read-value .result
 read-front c = sym (c .read-value .ensures ∙ shift-none (value 16 (c .before .before .args .s .now)))

@@ -1,11 +1,11 @@
 -- The float of the bits, a NaN where they are a NaN's. Assumes nothing.
 use mathlib.Core.Path.{sym, ap}
 use lib.Ieee.{Float, binary32, ofBits, div}
-use Rattle.scalars.specs.declared.Meaning.the-variants.{Float32}
-use Rattle.scalars.proofs.Nans.{allowed, nan-is}
+use Rattle.meanings.specs.declared.Meaning.the-variants.{Float32}
+use Rattle.meanings.proofs.Nans.{allowed, nan-is}
 use borrow.Author.Needs.{needs}
-use Rattle.scalars.proofs.float32.Statement.{statement}
-use Rattle.scalars.proofs.float32.Tie as tie
+use Rattle.meanings.proofs.float32.Statement.{statement}
+use Rattle.meanings.proofs.float32.Tie as tie
 
 float-from-bits-t5 : tie.Need-float-from-bits-t5
 float-from-bits-t5 c = allowed binary32 (c .before .args .bits) (c .if1 .taken)

@@ -19,7 +19,7 @@ use Rattle.values.specs.declared.Read.{Read}
 use Rattle.values.specs.declared.Read.the-variants.{Whole, Broken}
 use Rattle.values.proofs.Laws.{value-scalar}
 use Rattle.values.proofs.Local.{shift-whole, pick-whole, value-good, value-pos}
-use Rattle.scalars.specs.Meaning.{typeBytes}
+use Rattle.meanings.specs.Meaning.{typeBytes}
 
 pub shift-none : (r : Read) → shift 0 r ≡ r
 shift-none (Whole n) = ap Whole (zero-add n)

@@ -1,8 +1,8 @@
 -- The number of the float's bytes, as its bits. Assumes nothing.
-use Rattle.scalars.specs.Meaning.{ofFloat64}
+use Rattle.meanings.specs.Meaning.{ofFloat64}
 use borrow.Author.Needs.{needs}
-use Rattle.scalars.proofs.float64_meaning.Statement.{statement}
-use Rattle.scalars.proofs.float64_meaning.Tie as tie
+use Rattle.meanings.proofs.float64_meaning.Statement.{statement}
+use Rattle.meanings.proofs.float64_meaning.Tie as tie
 
 number-at-requires : tie.Need-number-at-requires
 number-at-requires c κs = search needs

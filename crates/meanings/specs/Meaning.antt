@@ -16,11 +16,11 @@ use Rattle.values.specs.declared.Number.{Number}
 use Rattle.values.specs.declared.Number.the-variants.{Is, Missing}
 use Rattle.values.specs.declared.Read.{Read}
 use Rattle.values.specs.declared.Read.the-variants.{Whole, Broken}
 use Rattle.scalars.specs.Integer.{integer}
 use Rattle.scalars.specs.declared.Integer.{Integer}
 use Rattle.scalars.specs.declared.Integer.the-variants.{Is as IsInt, Cut as CutInt, Other as OtherInt}
-use Rattle.scalars.specs.declared.Meaning.{Meaning}
-use Rattle.scalars.specs.declared.Meaning.the-variants.{
+use Rattle.meanings.specs.declared.Meaning.{Meaning}
+use Rattle.meanings.specs.declared.Meaning.the-variants.{
   Absent,
   Nil as MeansNil,
   Boolean as MeansBoolean,
@@ -33,7 +33,7 @@ use Rattle.scalars.specs.declared.Meaning.the-variants.{
   Array as MeansArray,
   Map as MeansMap,
 }
-use Rattle.scalars.specs.declared.Alone.{Alone}
+use Rattle.meanings.specs.declared.Alone.{Alone}
 
 unfoldable pub ofInteger : Integer → Meaning
 ofInteger (IsInt z e) = MeansInteger z

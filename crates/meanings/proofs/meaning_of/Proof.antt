@@ -1,11 +1,11 @@
 -- The meaning by the first byte's form. Assumes nothing.
 use native.Mathlib.Omega.{arith}
 use mathlib.Core.Path.{sym, _∙_}
-use Rattle.scalars.specs.Meaning.{meaning}
-use Rattle.scalars.proofs.Whole.{whole-within, scalar-whole}
+use Rattle.meanings.specs.Meaning.{meaning}
+use Rattle.meanings.proofs.Whole.{whole-within, scalar-whole}
 use borrow.Author.Needs.{needs}
-use Rattle.scalars.proofs.meaning_of.Statement.{statement}
-use Rattle.scalars.proofs.meaning_of.Tie as tie
+use Rattle.meanings.proofs.meaning_of.Statement.{statement}
+use Rattle.meanings.proofs.meaning_of.Tie as tie
 
 shared-slice-read-form-of : tie.Need-shared-slice-read-form-of
 shared-slice-read-form-of c =

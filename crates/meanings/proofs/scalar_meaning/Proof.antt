@@ -4,10 +4,10 @@ use Prim.Native.Nat.{ℕ, _+_, _≤_}
 use mathlib.Core.Path.{_≡_, subst}
 use Rattle.first_bytes.specs.FirstByte.{sameKind}
 use Rattle.first_bytes.specs.declared.Kind.{Kind}
-use Rattle.scalars.specs.Meaning.{typeBytes, scalarMeaning}
+use Rattle.meanings.specs.Meaning.{typeBytes, scalarMeaning}
 use borrow.Author.Needs.{needs}
-use Rattle.scalars.proofs.scalar_meaning.Statement.{statement}
-use Rattle.scalars.proofs.scalar_meaning.Tie as tie
+use Rattle.meanings.proofs.scalar_meaning.Statement.{statement}
+use Rattle.meanings.proofs.scalar_meaning.Tie as tie
 
 -- an ext has its type
 ext : (c : tie.After-enum-told9) → (let a = c .before .before .before .args in 1 + a .width + 1 ≤ a .end)

@@ -2,13 +2,13 @@
 use native.Mathlib.Nat.{zero-add}
 use mathlib.Core.Path.{_≡_, refl, ap, _∙_}
 use Prim.Native.Nat.{ℕ}
 use Rattle.scalars.specs.Integer.{integer, shiftInteger}
-use Rattle.scalars.specs.Meaning.{ofInteger}
+use Rattle.meanings.specs.Meaning.{ofInteger}
 use Rattle.scalars.specs.declared.Integer.{Integer}
 use Rattle.scalars.specs.declared.Integer.the-variants.{Is, Cut, Other}
 use borrow.Author.Needs.{needs}
-use Rattle.scalars.proofs.integer_meaning.Statement.{statement}
-use Rattle.scalars.proofs.integer_meaning.Tie as tie
+use Rattle.meanings.proofs.integer_meaning.Statement.{statement}
+use Rattle.meanings.proofs.integer_meaning.Tie as tie
 
 unshifted : (z : Integer) → shiftInteger 0 z ≡ z
 unshifted (Is z e) = ap (Is z) (zero-add e)

@@ -1,10 +1,10 @@
 -- The number of the float's bytes, as its bits. Assumes nothing.
 use native.Mathlib.Omega.{arith}
 use Prim.Native.Nat.{ℕ, _^_, _<_}
-use Rattle.scalars.specs.Meaning.{ofFloat32}
+use Rattle.meanings.specs.Meaning.{ofFloat32}
 use borrow.Author.Needs.{needs}
-use Rattle.scalars.proofs.float32_meaning.Statement.{statement}
-use Rattle.scalars.proofs.float32_meaning.Tie as tie
+use Rattle.meanings.proofs.float32_meaning.Statement.{statement}
+use Rattle.meanings.proofs.float32_meaning.Tie as tie
 
 number-at-requires : tie.Need-number-at-requires
 number-at-requires c κs = search needs
