@@ -1,13 +1,13 @@
 -- Reading operations: what each one that is read brings, and that an operation of an undo list is read back. Assumes nothing.
-use mathlib.Core.Path.{_≡_, refl, sym, ap, _∙_, subst}
+use mathlib.Core.Path.{_≡_, refl, sym, ap, subst}
 use mathlib.Core.Bool.{Bool, true, false, _&&_}
 use mathlib.Core.List.{List, [], _∷_, _++_, append-assoc}
 use mathlib.Core.Option.{Option, none, some}
-use Prim.Native.Nat.{ℕ, zero, suc, _+_, _-_, _^_, _<_, _≤_}
+use Prim.Native.Nat.{ℕ, zero, suc, _^_, _<_, _≤_}
 use native.Mathlib.Omega.{arith}
 use borrow.Author.Tests.{le-leb}
 use lib.Dec.{leb, eqb}
-use lib.ListN.{length, take, drop}
+use lib.ListN.{length}
 use lib.Seq.{take-append-seam, drop-append-seam}
 use Rattle.first_bytes.specs.Bytes.{Bytes, pick}
 use Rattle.values.specs.Value.{value}
@@ -15,16 +15,16 @@ use Rattle.values.specs.Pieces.{joined, Single}
 use Rattle.values.specs.declared.Read.{Read}
 use Rattle.values.specs.declared.Read.the-variants.{Whole, Broken}
 use Rattle.scalars.specs.declared.Int.{Int}
-use Rattle.scalars.specs.declared.Int.the-variants.{FromZero, BelowZero}
+use Rattle.scalars.specs.declared.Int.the-variants.{FromZero}
 use Rattle.writing.specs.Forms.{unsignedForm, stringHeader, arrayHeader}
-use Rattle.writing.proofs.Back.{integer-back, array-header-back}
+use Rattle.read_back.proofs.Back.{integer-back, array-header-back}
 use Rattle.tuples.specs.Limits.{fieldDepth, maxOperations, maxList}
 use Rattle.tuples.specs.Tuple.{plain}
 use Rattle.tuples.specs.Decoding.{Got, fails, gets, Decoder, onGot, then, made, nothing, valueFrom, anyValue, integerFrom, anyInteger, less, floor, atLeast, position, string, countFrom, count, mark}
 use Rattle.tuples.specs.Operation.{Action, plus, minus, and, xor, or, assign, insert, remove, splice, Operation, three, five, actionOf, operation, before, andMore, operations, listBy, operationsOf}
 use Rattle.tuples.specs.Edit.{operationBytes}
+use Rattle.tuples.proofs.Cases.{impossible, guarded}
 use Rattle.tuples.proofs.Whole.{single-front, single-take}
-use Rattle.tuples.proofs.Tuple.{guarded}
 
 -- ---- what every answer of a decoder is
 
@@ -119,18 +119,18 @@ pub data AllFine : List Operation → Type 0 where
 
 before-some : (o : Operation) (r : Option (List Operation)) (os : List Operation) → before o r ≡ some os → (ps : List Operation) × (r ≡ some ps) × (os ≡ o ∷ ps)
 unfolding before
-before-some o none os h = let z : _≡_ {A = ℕ} 0 1 = cc in absurd (omega arith)
+before-some o none os h = impossible (cc)
 before-some o (some ps) os h = (ps, refl, cc)
 
 operations-fine : (base n : ℕ) (s : Bytes) (os : List Operation) → operations base n s ≡ some os → AllFine os
 unfolding operations andMore
 operations-fine base zero [] os h = let e : [] ≡ os = cc in subst AllFine e end
-operations-fine base zero (b ∷ s) os h = let z : _≡_ {A = ℕ} 0 1 = cc in absurd (omega arith)
+operations-fine base zero (b ∷ s) os h = impossible (cc)
 operations-fine base (suc n) s os h = go (operation base s) (operation-fine base .on s) h (operations-fine base n)
   where
     go : (g : Got Operation) → Of FineOperation g → andMore g (operations base n) ≡ some os
         → ((s : Bytes) (os : List Operation) → operations base n s ≡ some os → AllFine os) → AllFine os
-    go fails q h ih = let z : _≡_ {A = ℕ} 0 1 = cc in absurd (omega arith)
+    go fails q h ih = impossible (cc)
     go (gets o r) q h ih =
         let (ps, e, w) = before-some o (operations base n r) os h in
         subst AllFine (sym w) (fine q (ih r ps e))
@@ -140,7 +140,7 @@ unfolding operationsOf listBy
 list-fine base l os h = go (count l) (guarded (leb base 1 && leb (length l) maxList) (listBy base (count l)) os h .1)
   where
     go : (g : Got ℕ) → listBy base g ≡ some os → AllFine os
-    go fails h = let z : _≡_ {A = ℕ} 0 1 = cc in absurd (omega arith)
+    go fails h = impossible (cc)
     go (gets n s) h = operations-fine base n s os (guarded (leb n maxOperations) (operations base n s) os h .1)
 
 -- ---- what is written is read back

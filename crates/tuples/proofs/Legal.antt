@@ -1,8 +1,8 @@
 -- Fields that a tuple may have: few, short together, each one whole value. Assumes nothing.
-use mathlib.Core.Path.{_≡_, refl, sym, ap, _∙_, subst}
-use mathlib.Core.Bool.{Bool, true, false, _&&_}
+use mathlib.Core.Path.{_≡_, refl, subst}
+use mathlib.Core.Bool.{Bool, true, false}
 use mathlib.Core.List.{List, [], _∷_, _++_, append-assoc}
-use Prim.Native.Nat.{ℕ, suc, _+_, _<_, _≤_}
+use Prim.Native.Nat.{suc, _+_, _≤_}
 use native.Mathlib.Omega.{arith}
 use borrow.Author.Tests.{leb-true, le-leb}
 use lib.Dec.{leb}
@@ -14,14 +14,9 @@ use Rattle.writing.specs.Forms.{arrayHeader}
 use Rattle.writing.proofs.Lengths.{array-mono}
 use Rattle.tuples.specs.Limits.{maxFields, maxTuple, fieldDepth}
 use Rattle.tuples.specs.Tuple.{Fields, plain}
-use Rattle.tuples.specs.Edit.{Step, stop, next, fits, limited}
+use Rattle.tuples.specs.Edit.{stop, next, fits, limited}
 use Rattle.tuples.specs.declared.Refusal.the-variants.{TooLarge}
-
--- two tests that both hold
-pub both-hold : (a b : Bool) → (a && b) ≡ true → (a ≡ true) × (b ≡ true)
-both-hold true true h = (refl, refl)
-both-hold true false h = (refl, h)
-both-hold false b h = (h, let z : false ≡ true = h in cc)
+use Rattle.tuples.proofs.Cases.{impossible, both-hold}
 
 pub record Fits (t : Fields) : Type 0 where
   pub few : length t ≤ maxFields
@@ -44,7 +39,7 @@ limited-next t u h = go (fits t) refl h
         let p : t ≡ u = cc in
         let (f, s) = both-hold (leb (length t) maxFields) (leb (length (plain t)) maxTuple) e in
         (p, subst Fits p (record { few = leb-true _ _ f; short = leb-true _ _ s }))
-    go false e q = let z : _≡_ {A = ℕ} 0 1 = cc in absurd (omega arith)
+    go false e q = impossible (cc)
 
 pub plain-length : (t : List Bytes) → length (plain t) ≡ length (arrayHeader (length t)) + length (joined t)
 unfolding plain

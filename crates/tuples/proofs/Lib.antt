@@ -1,4 +1,5 @@
 -- The laws of updates, each once. Assumes nothing.
+pub mod Cases
 pub mod Whole
 pub mod Legal
 pub mod Tuple

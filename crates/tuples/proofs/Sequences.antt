@@ -2,44 +2,15 @@
 use mathlib.Core.Path.{_≡_, refl, sym, ap, _∙_, subst}
 use mathlib.Core.List.{List, [], _∷_}
 use mathlib.Core.Option.{Option, none, some}
-use Prim.Native.Nat.{ℕ, zero, suc, _<_, _≤_}
+use Prim.Native.Nat.{ℕ, _<_}
 use native.Mathlib.Omega.{arith}
-use lib.ListN.{length}
 use Rattle.first_bytes.specs.Bytes.{Bytes}
 use Rattle.tuples.specs.Tuple.{Fields, plain, fieldsOf}
-use Rattle.tuples.specs.Call.{Outcome, refusal, bytes, update, undo, Result, writing, delivered, updateCall, undoCall}
-use Rattle.tuples.specs.Sequence.{
-  Event,
-  change,
-  back,
-  Laid,
-  State,
-  start,
-  plainBy,
-  plainOf,
-  wrote,
-  Machine,
-  byCalls,
-  byMemory,
-  Shown,
-  entered,
-  taken,
-  takenTop,
-  after,
-  callTop,
-  callOf,
-  listing,
-  undoneOf,
-  final,
-  trace,
-  TopKept,
-  Kept,
-  AllKept,
-  Home,
-}
-use Rattle.tuples.proofs.Legal.{Legal}
+use Rattle.tuples.specs.Call.{Outcome, refusal, bytes, update, undo, Result, delivered, updateCall, undoCall}
+use Rattle.tuples.specs.Sequence.{Event, change, back, Laid, State, start, plainBy, plainOf, wrote, byCalls, byMemory, entered, taken, takenTop, after, callTop, callOf, listing, undoneOf, final, trace, TopKept, Kept, AllKept, Home}
+use Rattle.tuples.proofs.Cases.{impossible}
 use Rattle.tuples.proofs.Tuple.{fields-legal, read-plain}
-use Rattle.tuples.proofs.Calls.{TakesBack, WentIn, went-in, delivered-room, delivered-wrote}
+use Rattle.tuples.proofs.Calls.{TakesBack, went-in, delivered-room, delivered-wrote}
 
 plain-of : (t : Bytes) (fs : Fields) → fieldsOf t ≡ some fs → plainOf t ≡ plain fs
 unfolding plainOf plainBy
@@ -97,7 +68,7 @@ module _ (t : Bytes) (first : Fields) where
         reads = ap fieldsOf o ∙ read-plain (c .0) (fields-legal (x .given) (c .0) (c .1));
         chain = c .3;
         tidy = λ _. o;
-        untouched = λ h. let n = k .untouched h .0 in let z : _≡_ {A = ℕ} 0 1 = cc in absurd (omega arith);
+        untouched = λ h. let n = k .untouched h .0 in impossible (cc);
       }
 
   -- ---- each event, in a state that is sure
@@ -171,7 +142,7 @@ module _ (t : Bytes) (first : Fields) where
 
   emptied : (cur : Fields) (pile : List Laid) → Chain t first cur pile → pile ≡ [] → cur ≡ first
   emptied cur [] c e = c
-  emptied cur (x ∷ below) c e = let z : _≡_ {A = ℕ} 0 1 = cc in absurd (omega arith)
+  emptied cur (x ∷ below) c e = impossible (cc)
 
   home : (s : State) → Sure t first s → Home t first s
   home s k =

@@ -1,13 +1,13 @@
 -- What every edit is that an operation asks for: at a place that the fields have, with bytes that are one whole value. Assumes nothing.
-use mathlib.Core.Path.{_≡_, refl, sym, ap, _∙_}
+use mathlib.Core.Path.{_≡_, refl}
 use mathlib.Core.Bool.{Bool, true, false}
-use mathlib.Core.List.{List, [], _∷_, _++_, append-nil}
+use mathlib.Core.List.{List, [], _∷_, append-nil}
 use mathlib.Core.Logic.{⊎-elim}
 use mathlib.Core.Option.{Option, none, some}
-use Prim.Native.Nat.{ℕ, _+_, _-_, _^_, _<_, _≤_}
+use Prim.Native.Nat.{ℕ, _^_, _<_, _≤_}
 use native.Mathlib.Omega.{arith}
 use borrow.Author.Tests.{eqb-true, le-ltb}
-use lib.Dec.{ltb, eqb}
+use lib.Dec.{eqb}
 use lib.IntN.{ℤ, pos, negsuc, _+ℤ_, _-ℤ_}
 use lib.ListN.{length, getD, length-append}
 use Rattle.first_bytes.specs.Bytes.{Bytes, pick}
@@ -17,14 +17,14 @@ use Rattle.values.specs.Value.{value, one, byForm, sized, payload}
 use Rattle.values.specs.Pieces.{Single}
 use Rattle.scalars.specs.declared.Int.{Int}
 use Rattle.scalars.specs.declared.Int.the-variants.{FromZero, BelowZero}
-use Rattle.writing.specs.Forms.{bigEndian, unsignedForm, negativeForm, stringHeader}
-use Rattle.writing.proofs.Back.{unsigned-whole, negative-whole, string-whole}
+use Rattle.writing.specs.Forms.{bigEndian, unsignedForm, stringHeader}
+use Rattle.read_back.proofs.Back.{unsigned-whole, negative-whole, string-whole}
 use Rattle.writing.proofs.Choice.{by-leb, by-ltb, either}
 use Rattle.tuples.specs.Limits.{maxTuple, fieldDepth}
 use Rattle.tuples.specs.Tuple.{Fields}
 use Rattle.tuples.specs.Decoding.{Got, fails, gets, Decoder, anyInteger, atLeast, string}
 use Rattle.tuples.specs.Operation.{Action, plus, minus, and, xor, or, assign, insert, remove, splice, Operation}
-use Rattle.tuples.specs.Edit.{Edit, refuse, put, add, cut, asℤ, ranged, spliced, stringForm, became, suited, altered, editAt, fieldAt, Plan, planOf, plans}
+use Rattle.tuples.specs.Edit.{Edit, refuse, put, add, cut, asℤ, ranged, stringForm, became, suited, altered, editAt, fieldAt, Plan, planOf, plans}
 use Rattle.tuples.specs.declared.Refusal.the-variants.{NoField}
 use Rattle.tuples.proofs.Decode.{Fine, FineOperation, AllFine, end, fine}
 

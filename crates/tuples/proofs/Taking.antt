@@ -1,21 +1,22 @@
 -- An undo list takes the fields back, over any plans. Assumes nothing.
 use mathlib.Core.Path.{_≡_, refl, sym, ap, ap₂, _∙_, subst}
-use mathlib.Core.List.{List, [], _∷_, _++_, append-nil}
-use Prim.Native.Nat.{ℕ, zero, suc, _+_, _-_, _^_, min, _<_, _≤_}
+use mathlib.Core.List.{List, [], _∷_, _++_}
+use Prim.Native.Nat.{ℕ, suc, _+_, _-_, _^_, min, _<_, _≤_}
 use native.Mathlib.Nat.{add-zero}
 use native.Mathlib.Numerals.{add-one}
 use native.Mathlib.Omega.{arith}
 use borrow.Author.Tests.{lt-ltb, le-leb}
-use lib.ListN.{length, getD, take, drop, length-append, length-drop, take-append-drop}
+use lib.ListN.{length, getD, take, drop, length-append, take-append-drop}
 use lib.Seq.{split-at, length-take-le, take-append-seam, drop-append-add, drop-drop}
 use Rattle.first_bytes.specs.Bytes.{Bytes}
 use Rattle.values.specs.Value.{value}
-use Rattle.values.specs.Pieces.{joined, Single, Each, more}
+use Rattle.values.specs.Pieces.{Single, Each, more}
 use Rattle.writing.specs.Forms.{unsignedForm}
-use Rattle.tuples.specs.Limits.{fieldDepth, maxFields}
-use Rattle.tuples.specs.Tuple.{Fields, plain}
+use Rattle.tuples.specs.Limits.{fieldDepth}
+use Rattle.tuples.specs.Tuple.{Fields}
 use Rattle.tuples.specs.Operation.{assign, insert, remove, Operation, operation}
-use Rattle.tuples.specs.Edit.{Edit, refuse, put, add, cut, spliced, editAt, fieldAt, Plan, planOf, plans, Step, stop, next, limited, perform, step, Run, done, onward, run, operationBytes, restored, inverse, undoOf}
+use Rattle.tuples.specs.Edit.{Edit, refuse, put, add, cut, spliced, editAt, fieldAt, Plan, planOf, plans, Step, stop, next, perform, step, Run, done, onward, run, operationBytes, restored, inverse, undoOf}
+use Rattle.tuples.proofs.Cases.{impossible}
 use Rattle.tuples.proofs.Whole.{each-append, each-take, each-drop, each-at}
 use Rattle.tuples.proofs.Legal.{Fits, Legal, limited-fits, limited-next, plain-length, field-length, fits-less}
 use Rattle.tuples.proofs.Decode.{ReadAs, at, assign-back, insert-back, remove-back, Written, none-left, one-more, written-append}
@@ -24,7 +25,7 @@ use Rattle.tuples.proofs.Sound.{Brief, Sound, AllSound, none-left as no
 -- ---- running
 
 went-on : (i : ℕ) (s : Step) (go : Fields → Run) (v : Fields) → onward i s go ≡ done v → (u : Fields) × (s ≡ next u) × (go u ≡ done v)
-went-on i (stop k) go v h = let z : _≡_ {A = ℕ} 0 1 = cc in absurd (omega arith)
+went-on i (stop k) go v h = impossible (cc)
 went-on i (next u) go v h = (u, refl, h)
 
 run-append : (ps qs : List Plan) (i : ℕ) (t u : Fields) → run i ps t ≡ done u → run i (ps ++ qs) t ≡ run (i + length ps) qs u
@@ -131,7 +132,7 @@ module _ (t u : Fields) (g : Legal t) where
 
   edit-undone : (e : Edit) → Sound e t → perform e t ≡ next u → Undone (inverse e t) u t
   unfolding perform inverse spliced
-  edit-undone (refuse k) s h = let z : _≡_ {A = ℕ} 0 1 = cc in absurd (omega arith)
+  edit-undone (refuse k) s h = impossible (cc)
   edit-undone (put f b) s h =
       let p = take f t in
       let x = getD t f [] in

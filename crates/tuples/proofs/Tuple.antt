@@ -1,67 +1,71 @@
 -- A tuple's bytes and its fields. Assumes nothing.
-use mathlib.Core.Path.{_≡_, refl, sym, ap, _∙_, subst}
+use mathlib.Core.Path.{_≡_, refl, ap, _∙_, subst}
 use mathlib.Core.Bool.{Bool, true, false}
-use mathlib.Core.List.{List, [], _∷_, _++_, append-nil}
+use mathlib.Core.List.{[], _∷_, _++_, append-nil}
 use mathlib.Core.Logic.{_⊎_, inl, inr, ⊎-elim}
-use mathlib.Core.Option.{Option, none, some}
-use Prim.Native.Nat.{ℕ, zero, suc, _+_, _-_, _*_, _^_, _<_, _≤_}
+use mathlib.Core.Option.{some}
+use Prim.Native.Nat.{ℕ, suc, _+_, _-_, _*_, _^_, _<_, _≤_}
 use native.Mathlib.Omega.{arith}
 use borrow.Author.Tests.{leb-true, le-leb, eqb-true, eq-eqb}
 use lib.Dec.{leb, eqb}
-use lib.ListN.{length, take, drop, length-append, length-drop}
+use lib.ListN.{length, take, drop, length-drop}
 use lib.Pow.{pow-pos}
 use lib.Seq.{take-length, drop-append-seam}
 use Rattle.first_bytes.specs.Bytes.{Bytes, pick}
 use Rattle.first_bytes.specs.FirstByte.{formOf}
 use Rattle.first_bytes.specs.declared.Form.{Form}
-use Rattle.first_bytes.specs.declared.Form.the-variants.{Unused, Scalar, Array, Map}
 use Rattle.values.specs.Number.{number}
-use Rattle.values.specs.Value.{value, items, andThen}
+use Rattle.values.specs.Value.{value, items}
 use Rattle.values.specs.Pieces.{pieces, joined, Each}
 use Rattle.values.specs.declared.Read.{Read}
 use Rattle.values.specs.declared.Read.the-variants.{Whole, Broken}
 use Rattle.values.proofs.Local.{value-good}
 use Rattle.values.proofs.Pieces.{pieces-joined, items-joined}
-use Rattle.scalars.specs.Header.{counted, arrayBy, header}
+use Rattle.scalars.specs.Header.{counted, header}
+use Rattle.scalars.specs.Start.{arrayBy}
+use Rattle.scalars.specs.declared.Start.{Start}
+use Rattle.scalars.specs.declared.Start.the-variants.{Here, Elsewhere}
 use Rattle.scalars.specs.declared.Header.{Header}
 use Rattle.scalars.specs.declared.Header.the-variants.{Is, Other}
 use Rattle.writing.specs.Forms.{bigEndian, arrayHeader}
-use Rattle.writing.proofs.Back.{array-header-back}
+use Rattle.read_back.proofs.Back.{array-header-back}
 use Rattle.writing.proofs.Choice.{by-leb}
 use Rattle.writing.proofs.Lengths.{array-mono}
 use Rattle.tuples.specs.Limits.{maxFields, maxTuple, fieldDepth}
 use Rattle.tuples.specs.Tuple.{Fields, plain, filling, values, fieldsBy, fieldsOf}
+use Rattle.tuples.proofs.Cases.{impossible, guarded}
 use Rattle.tuples.proofs.Whole.{pieces-each}
-use Rattle.tuples.proofs.Legal.{Fits, Legal, plain-length}
+use Rattle.tuples.proofs.Legal.{Legal, plain-length}
 
 -- ---- no array's header is shorter than the one that is written
 
 -- 16 fields and more take two count bytes at least
-abbrev Room : Form → Type 0
-Room Unused = Unit {0}
-Room (Scalar k w f) = Unit {0}
-Room (Array w f) = ((w ≡ 0) × (f < 16)) ⊎ (2 ≤ w)
-Room (Map w f) = Unit {0}
+abbrev Enough : Start → Type 0
+Enough (Here w f) = ((w ≡ 0) × (f < 16)) ⊎ (2 ≤ w)
+Enough Elsewhere = Unit {0}
+
+abbrev Wide : Form → Type 0
+Wide F = Enough (arrayBy F)
 
 past : (P : Form → Type 0) (b k : ℕ) {x y : Form} → P x → P y → P (pick (leb b k) x y)
 past P b k p q = by-leb P b k (λ _. p) (λ _. q)
 
-form-room : (b : ℕ) → Room (formOf b)
+array-wide : (b : ℕ) → Wide (formOf b)
 unfolding formOf
-form-room b =
-    past Room b 0x7f tt (past Room b 0x8f tt (by-leb Room b 0x9f (λ h. inl (refl, omega arith))
-    (λ _. past Room b 0xbf tt (past Room b 0xc0 tt (past Room b 0xc1 tt (past Room b 0xc3 tt (past Room b 0xc6 tt (past Room b 0xc9 tt (past Room b 0xca tt (past Room b 0xcb tt (past Room b 0xcf tt
-    (past Room b 0xd3 tt (past Room b 0xd8 tt (past Room b 0xdb tt (past Room b 0xdd (inr wide) (past Room b 0xdf tt tt))))))))))))))))
+array-wide b =
+    past Wide b 0x7f tt (past Wide b 0x8f tt (by-leb Wide b 0x9f (λ h. inl (refl, omega arith))
+    (λ _. (past Wide b 0xbf tt (past Wide b 0xc0 tt (past Wide b 0xc1 tt (past Wide b 0xc3 tt (past Wide b 0xc6 tt (past Wide b 0xc9 tt (past Wide b 0xca tt
+    (past Wide b 0xcb tt (past Wide b 0xcf tt (past Wide b 0xd3 tt (past Wide b 0xd8 tt (past Wide b 0xdb tt (past Wide b 0xdd (inr two) (past Wide b 0xdf tt tt)))))))))))))))))
   where
-    wide : 2 ≤ 2 * 2 ^ (b - 0xdc)
-    wide = let h : 0 < 2 ^ (b - 0xdc) = pow-pos (b - 0xdc) in omega arith
+    two : 2 ≤ 2 * 2 ^ (b - 0xdc)
+    two = let h : 0 < 2 ^ (b - 0xdc) = pow-pos (b - 0xdc) in omega arith
 
 pub array-short : (t : Bytes) (n e : ℕ) → n < 2 ^ 16 → header arrayBy t ≡ Is n e → (length (arrayHeader n) ≤ e) × (e ≤ length t)
-unfolding header arrayBy counted number arrayHeader bigEndian
-array-short [] n e l h = let z : _≡_ {A = ℕ} 0 1 = cc in absurd (omega arith)
-array-short (b ∷ s) n e l h = by-form (formOf b) (form-room b) h
+unfolding header counted number arrayHeader bigEndian
+array-short [] n e l h = impossible (cc)
+array-short (b ∷ s) n e l h = by-start (arrayBy (formOf b)) (array-wide b) h
   where
-    by-count : (w f : ℕ) → Room (Array w f) → (t : Bool) → leb w (length s) ≡ t → pick t (Is (number (take w s) + f) (1 + w)) Other ≡ Is n e
+    by-count : (w f : ℕ) → Enough (Here w f) → (t : Bool) → leb w (length s) ≡ t → pick t (Is (number (take w s) + f) (1 + w)) Other ≡ Is n e
         → (length (arrayHeader n) ≤ e) × (e ≤ suc (length s))
     by-count w f r true q h =
         let k = leb-true w (length s) q in
@@ -70,19 +74,13 @@ array-short (b ∷ s) n e l h = by-form (formOf b) (form-room b) h
         let few = array-mono n 15 in
         let all = array-mono n 65535 (omega arith) in
         (⊎-elim (λ z. let o : number (take w s) ≡ 0 = rw (z .0) in let m = few (omega arith) in omega arith) (λ z. omega arith) r, omega arith)
-    by-count w f r false q h = let z : _≡_ {A = ℕ} 0 1 = cc in absurd (omega arith)
+    by-count w f r false q h = impossible (cc)
 
-    by-form : (F : Form) → Room F → arrayBy F s ≡ Is n e → (length (arrayHeader n) ≤ e) × (e ≤ suc (length s))
-    by-form Unused r h = let z : _≡_ {A = ℕ} 0 1 = cc in absurd (omega arith)
-    by-form (Scalar k w f) r h = let z : _≡_ {A = ℕ} 0 1 = cc in absurd (omega arith)
-    by-form (Array w f) r h = by-count w f r (leb w (length s)) refl h
-    by-form (Map w f) r h = let z : _≡_ {A = ℕ} 0 1 = cc in absurd (omega arith)
+    by-start : (x : Start) → Enough x → counted x s ≡ Is n e → (length (arrayHeader n) ≤ e) × (e ≤ suc (length s))
+    by-start (Here w f) r h = by-count w f r (leb w (length s)) refl h
+    by-start Elsewhere r h = impossible (cc)
 
 -- ---- what `fieldsOf` says
-
-pub guarded : {A : Type 0} (b : Bool) (o : Option A) (x : A) → pick b o none ≡ some x → (b ≡ true) × (o ≡ some x)
-guarded true o x h = (refl, h)
-guarded false o x h = let z : _≡_ {A = ℕ} 0 1 = cc in absurd (omega arith)
 
 -- n values that fill s
 record Filled (n : ℕ) (s : Bytes) (fs : Fields) : Type 0 where
@@ -95,7 +93,7 @@ unfolding values filling
 values-filled n s fs h = go (items (value fieldDepth) n s) refl h
   where
     go : (r : Read) → items (value fieldDepth) n s ≡ r → filling r (length s) (pieces (value fieldDepth) n s) ≡ some fs → Filled n s fs
-    go (Broken p) e h = let z : _≡_ {A = ℕ} 0 1 = cc in absurd (omega arith)
+    go (Broken p) e h = impossible (cc)
     go (Whole k) e h =
         let (t, q) = guarded (eqb k (length s)) (some (pieces (value fieldDepth) n s)) fs h in
         let p : pieces (value fieldDepth) n s ≡ fs = cc in
@@ -110,7 +108,7 @@ fields-legal t fs h =
     go (leb-true _ _ b) (header arrayBy t) refl e
   where
     go : length t ≤ maxTuple → (g : Header) → header arrayBy t ≡ g → fieldsBy g t ≡ some fs → Legal fs
-    go l Other q e = let z : _≡_ {A = ℕ} 0 1 = cc in absurd (omega arith)
+    go l Other q e = impossible (cc)
     go l (Is n k) q e =
         let (b, v) = guarded (leb n maxFields) (values n (drop k t)) fs e in
         let f = values-filled n (drop k t) fs v in

@@ -1,4 +1,4 @@
--- What an operation is read from: a part at the front of bytes, and the bytes after it.
+-- The parts of which an operation is read, each at the front of bytes.
 use Prim.Native.Nat.{ℕ, _+_, _-_}
 use mathlib.Core.List.{[], _∷_}
 use lib.Dec.{leb, eqb}
@@ -8,7 +8,8 @@ use Rattle.values.specs.Value.{value}
 use Rattle.values.specs.declared.Read.{Read}
 use Rattle.values.specs.declared.Read.the-variants.{Whole, Broken}
 use Rattle.scalars.specs.Integer.{integer}
-use Rattle.scalars.specs.Header.{header, stringBy, arrayBy}
+use Rattle.scalars.specs.Header.{header}
+use Rattle.scalars.specs.Start.{stringBy, arrayBy}
 use Rattle.scalars.specs.declared.Int.{Int}
 use Rattle.scalars.specs.declared.Int.the-variants.{FromZero, BelowZero}
 use Rattle.scalars.specs.declared.Integer.{Integer}
@@ -17,6 +18,7 @@ use Rattle.scalars.specs.declared.Header.{Header}
 use Rattle.scalars.specs.declared.Header.the-variants.{Is, Other}
 use Rattle.tuples.specs.Limits.{fieldDepth}
 
+-- what was asked for is not there; or what was read, and the bytes after it
 pub data Got (A : Type 0) : Type 0 where
   fails : Got A
   gets : A → Bytes → Got A

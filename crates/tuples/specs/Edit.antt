@@ -42,11 +42,13 @@ spliced p c a s = take p s ++ (a ++ drop (p + c) s)
 unfoldable pub stringForm : Bytes → Bytes
 stringForm s = stringHeader (length s) ++ s
 
+-- "15: sum or difference out of range"
 unfoldable pub became : ℕ → Option Bytes → Edit
 became f none = refuse OutOfRange
 became f (some b) = put f b
 
 module _ {A : Type 0} where
+  -- "14: the field's type or sign does not suit"
   unfoldable pub suited : ℕ → Got A → (A → Option Bytes) → Edit
   suited f fails change = refuse Unsuited
   suited f (gets a s) change = became f (change a)

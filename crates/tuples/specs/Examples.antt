@@ -9,15 +9,15 @@ use Rattle.first_bytes.specs.FirstByte.{formOf, sameKind}
 use Rattle.values.specs.Number.{number}
 use Rattle.values.specs.Value.{payload, sized, items, byForm, one, tooDeep, container, value}
 use Rattle.values.specs.Pieces.{pieces, joined}
-use Rattle.scalars.specs.Integer.{naturalOf, twosComplement, signedOf, integerBy, integer}
-use Rattle.scalars.specs.Header.{counted, stringBy, arrayBy, header}
+use Rattle.scalars.specs.Integer.{dueIn, due, naturalOf, unsignedBy, unsigned, twosComplement, signedOf, signedBy, signed, adding, integer}
+use Rattle.scalars.specs.Header.{counted, header}
 use Rattle.writing.specs.Forms.{bigEndian, unsignedForm, negativeForm, stringHeader, arrayHeader}
 use Rattle.tuples.specs.Tuple.{plain, filling, values, fieldsBy, fieldsOf}
 use Rattle.tuples.specs.Decoding.{onGot, then, made, nothing, valueFrom, anyValue, integerFrom, anyInteger, less, floor, atLeast, position, stringFrom, string, countFrom, count, mark}
 use Rattle.tuples.specs.Operation.{three, five, actionOf, operation, before, andMore, operations, listBy, operationsOf}
 use Rattle.tuples.specs.Edit.{asℤ, ranged, spliced, stringForm, became, suited, altered, editAt, fieldAt, planOf, plans, fits, limited, perform, step, run, operationBytes, restored, inverse, undoOf}
 use Rattle.tuples.specs.Call.{numberOf, judged, onRun, updateOf, limitedList, undoListOf, update, undo, Result, refusing, writing, delivered, updateCall, undoCall}
-use Rattle.tuples.specs.Sequence.{Event, change, back, Shown, start, wrote, byCalls, entered, taken, takenTop, after, callTop, callOf, listing, undoneOf, trace}
+use Rattle.tuples.specs.Sequence.{Event, change, back, Shown, start, plainBy, plainOf, wrote, byCalls, byMemory, entered, taken, takenTop, after, callTop, callOf, listing, undoneOf, trace}
 
 -- the buffer that each call is lent, and what its caller sees of w written into it, and of a refusal
 abbrev pub room : Bytes
@@ -73,6 +73,9 @@ known =
     ∷ case (0x90 ∷ []) (0x90 ∷ []) 0 (0x90 ∷ []) (0x90 ∷ [])
     ∷ []
 
+abbrev pub longUndo : Bytes
+longUndo = 0xdc ∷ 0x00 ∷ 0x21 ∷ joined (replicate 32 (0x93 ∷ 0xa1 ∷ 0x21 ∷ 0x00 ∷ 0x07 ∷ [])) ++ (0x93 ∷ 0xa1 ∷ 0x23 ∷ 0x00 ∷ 0x21 ∷ [])
+
 -- one for each rule
 abbrev pub rules : List Case
 rules =
@@ -102,7 +105,7 @@ rules =
     (0x91 ∷ replicate 12 0x91 ++ (0x07 ∷ [])) (0x90 ∷ [])
     ∷ refusedCase (0x91 ∷ replicate 13 0x91 ++ (0x07 ∷ [])) (0x90 ∷ []) 0 11 0
     -- 11: no array, bytes left over, too few, broken
-    ∷ refusedCase ([]) (0x90 ∷ []) 0 11 0
+    ∷ refusedCase [] (0x90 ∷ []) 0 11 0
     ∷ refusedCase (0x81 ∷ 0x01 ∷ 0x02 ∷ []) (0x90 ∷ []) 0 11 0
     ∷ refusedCase (0x91 ∷ 0x01 ∷ 0x02 ∷ []) (0x90 ∷ []) 0 11 0
     ∷ refusedCase (0x92 ∷ 0x01 ∷ []) (0x90 ∷ []) 0 11 0
@@ -132,12 +135,17 @@ rules =
     ∷ refusedCase (0x91 ∷ 0xff ∷ []) (0x91 ∷ 0x93 ∷ 0xa1 ∷ 0x26 ∷ 0x00 ∷ 0x01 ∷ []) 0 14 0
     ∷ refusedCase (0x91 ∷ 0x01 ∷ []) (0x91 ∷ 0x95 ∷ 0xa1 ∷ 0x3a ∷ 0x00 ∷ 0x00 ∷ 0x01 ∷ 0xa0 ∷ []) 0 14 0
     ∷ refusedCase (0x91 ∷ 0xd3 ∷ 0x80 ∷ 0x00 ∷ 0x00 ∷ 0x00 ∷ 0x00 ∷ 0x00 ∷ 0x00 ∷ 0x00 ∷ []) (0x91 ∷ 0x93 ∷ 0xa1 ∷ 0x2d ∷ 0x00 ∷ 0x01 ∷ []) 0 15 0
-    -- 64 fields pass; a 65th: 16
+    -- 64 fields pass, and do not fit the buffer: 18; a 65th: 16
+    ∷ record { tuple = 0xdc ∷ 0x00 ∷ 0x40 ∷ replicate 64 0x07; list = 0x90 ∷ []; base = 0; updates = refused 18 0; undoes = accepted (0x90 ∷ []) }
     ∷ refusedCase (0xdc ∷ 0x00 ∷ 0x40 ∷ replicate 64 0x07) (0x91 ∷ 0x93 ∷ 0xa1 ∷ 0x21 ∷ 0x00 ∷ 0x01 ∷ []) 0 16 0
+    -- 16 is counted with the shortest header of the fields after the operation: the 16th field makes it two bytes longer
+    ∷ refusedCase (0x9f ∷ replicate 14 0x07 ++ (0xc5 ∷ 0x3f ∷ 0xec ∷ replicate 0x3fec 0x00)) (0x91 ∷ 0x93 ∷ 0xa1 ∷ 0x3d ∷ 0x0f ∷ 0x09 ∷ []) 0 16 0
+    -- 32 fields inserted, then all 33 removed: an undo list of 65 operations
+    ∷ record { tuple = 0x91 ∷ 0x01 ∷ []; list = longUndo; base = 0; updates = accepted (0x90 ∷ []); undoes = refused 17 0 }
     ∷ []
 
--- a sequence: an update on a tuple with a long header; one refused; one from base 1; one whose undo list is too long (32 fields inserted, then
--- 33 removed), so that it does not go in; one with a short buffer; then takings back, with a short buffer, with room, with just enough, on an empty pile
+-- a sequence: an update on a tuple with a long header; one refused; one from base 1; one whose undo list is too long, so
+-- that it does not go in; one with a short buffer; then takings back, with a short buffer, with room, with just enough, on an empty pile
 abbrev pub first : Bytes
 first = 0xdd ∷ 0x00 ∷ 0x00 ∷ 0x00 ∷ 0x01 ∷ 0xcd ∷ 0x00 ∷ 0x05 ∷ []
 
@@ -146,7 +154,7 @@ events =
     change (0x91 ∷ 0x93 ∷ 0xa1 ∷ 0x2b ∷ 0x00 ∷ 0x01 ∷ []) 0 room room
     ∷ change (0x91 ∷ 0x93 ∷ 0xa1 ∷ 0x23 ∷ 0x07 ∷ 0x01 ∷ []) 0 room room
     ∷ change (0x91 ∷ 0x93 ∷ 0xa1 ∷ 0x21 ∷ 0x01 ∷ 0x2a ∷ []) 1 room []
-    ∷ change (0xdc ∷ 0x00 ∷ 0x21 ∷ joined (replicate 32 (0x93 ∷ 0xa1 ∷ 0x21 ∷ 0x00 ∷ 0x07 ∷ [])) ++ (0x93 ∷ 0xa1 ∷ 0x23 ∷ 0x00 ∷ 0x21 ∷ [])) 0 room room
+    ∷ change longUndo 0 room room
     ∷ change (0x91 ∷ 0x93 ∷ 0xa1 ∷ 0x23 ∷ 0x00 ∷ 0x01 ∷ []) 0 (0x00 ∷ []) room
     ∷ back (0x00 ∷ [])
     ∷ back room
@@ -173,6 +181,6 @@ shows =
     ∷ shown none none (0x91 ∷ 0xcd ∷ 0x00 ∷ 0x05 ∷ [])
     ∷ []
 
-pub worked : (map computed known ≡ known) × ((map computed rules ≡ rules) × (trace byCalls (start first) events ≡ shows))
-unfolding formOf sameKind number payload sized items byForm one tooDeep container value pieces joined naturalOf twosComplement signedOf integerBy integer counted stringBy arrayBy header bigEndian unsignedForm negativeForm stringHeader arrayHeader plain filling values fieldsBy fieldsOf onGot then made nothing valueFrom anyValue integerFrom anyInteger less floor atLeast position stringFrom string countFrom count mark three five actionOf operation before andMore operations listBy operationsOf asℤ ranged spliced stringForm became suited altered editAt fieldAt planOf plans fits limited perform step run operationBytes restored inverse undoOf numberOf judged onRun updateOf limitedList undoListOf update undo refusing writing delivered updateCall undoCall start wrote byCalls entered taken takenTop after callTop callOf listing undoneOf trace
-worked = (refl, (refl, refl))
+pub worked : (map computed known ≡ known) × ((map computed rules ≡ rules) × ((trace byCalls (start first) events ≡ shows) × (trace byMemory (start first) events ≡ shows)))
+unfolding formOf sameKind number payload sized items byForm one tooDeep container value pieces joined dueIn due naturalOf unsignedBy unsigned twosComplement signedOf signedBy signed adding integer counted header bigEndian unsignedForm negativeForm stringHeader arrayHeader plain filling values fieldsBy fieldsOf onGot then made nothing valueFrom anyValue integerFrom anyInteger less floor atLeast position stringFrom string countFrom count mark three five actionOf operation before andMore operations listBy operationsOf asℤ ranged spliced stringForm became suited altered editAt fieldAt planOf plans fits limited perform step run operationBytes restored inverse undoOf numberOf judged onRun updateOf limitedList undoListOf update undo refusing writing delivered updateCall undoCall start plainBy plainOf wrote byCalls byMemory entered taken takenTop after callTop callOf listing undoneOf trace
+worked = (refl, (refl, (refl, refl)))

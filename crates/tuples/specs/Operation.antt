@@ -18,7 +18,7 @@ pub data Action : Type 0 where
   remove : ℕ → Action
   splice : ℕ → ℕ → Bytes → Action
 
--- an action on the field of a number, from which the base is taken off
+-- an action on the field of a number, after the base is taken off
 pub record Operation : Type 0 where
   pub number : Int
   pub action : Action
@@ -26,18 +26,18 @@ pub record Operation : Type 0 where
 -- "an array of three, mark, field number (an integer), argument"
 unfoldable pub three : ℕ → Decoder Action
 three c =
-    pick (eqb c 0x2b) (made plus anyInteger)
-    (pick (eqb c 0x2d) (made minus anyInteger)
-    (pick (eqb c 0x26) (made and (atLeast 0))
-    (pick (eqb c 0x5e) (made xor (atLeast 0))
-    (pick (eqb c 0x7c) (made or (atLeast 0))
-    (pick (eqb c 0x3d) (made assign anyValue)
-    (pick (eqb c 0x21) (made insert anyValue)
-    (pick (eqb c 0x23) (made remove (atLeast 1)) nothing)))))))
+    pick (eqb c 0x2b) (made plus anyInteger)  -- +
+    (pick (eqb c 0x2d) (made minus anyInteger)  -- -
+    (pick (eqb c 0x26) (made and (atLeast 0))  -- &
+    (pick (eqb c 0x5e) (made xor (atLeast 0))  -- ^
+    (pick (eqb c 0x7c) (made or (atLeast 0))  -- |
+    (pick (eqb c 0x3d) (made assign anyValue)  -- =
+    (pick (eqb c 0x21) (made insert anyValue)  -- !
+    (pick (eqb c 0x23) (made remove (atLeast 1)) nothing)))))))  -- #
 
 -- "`:` has five, mark, field number, position, count, argument"
 unfoldable pub five : ℕ → ℕ → Decoder Action
-five base c = pick (eqb c 0x3a) (then (position base) (λ p. then (atLeast 0) (λ k. made (splice p k) string))) nothing
+five base c = pick (eqb c 0x3a) (then (position base) (λ p. then (atLeast 0) (λ k. made (splice p k) string))) nothing  -- :
 
 unfoldable pub actionOf : ℕ → ℕ → ℕ → Decoder Action
 actionOf base n c = pick (eqb n 3) (three c) (pick (eqb n 5) (five base c) nothing)

@@ -52,4 +52,5 @@ pub fn worked_examples()
     ensures known { λ _. ⌜ map computed known ≡ known ⌝ }
     ensures rules { λ _. ⌜ map computed rules ≡ rules ⌝ }
     ensures sequence { λ _. ⌜ trace byCalls (start first) events ≡ shows ⌝ }
+    ensures memory { λ _. ⌜ trace byMemory (start first) events ≡ shows ⌝ }
 {}
