@@ -8,8 +8,8 @@ use Rattle.values.specs.Value.{value}
 use Rattle.values.specs.declared.Read.{Read}
 use Rattle.values.specs.declared.Read.the-variants.{Whole, Broken}
 use Rattle.scalars.specs.Integer.{integer}
-use Rattle.scalars.specs.Header.{header}
 use Rattle.scalars.specs.Start.{stringBy, arrayBy}
+use Rattle.scalars.specs.Header.{header}
 use Rattle.scalars.specs.declared.Int.{Int}
 use Rattle.scalars.specs.declared.Int.the-variants.{FromZero, BelowZero}
 use Rattle.scalars.specs.declared.Integer.{Integer}

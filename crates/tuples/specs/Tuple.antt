@@ -9,8 +9,8 @@ use Rattle.values.specs.Value.{value, items}
 use Rattle.values.specs.Pieces.{pieces, joined}
 use Rattle.values.specs.declared.Read.{Read}
 use Rattle.values.specs.declared.Read.the-variants.{Whole, Broken}
-use Rattle.scalars.specs.Header.{header}
 use Rattle.scalars.specs.Start.{arrayBy}
+use Rattle.scalars.specs.Header.{header}
 use Rattle.scalars.specs.declared.Header.{Header}
 use Rattle.scalars.specs.declared.Header.the-variants.{Is, Other}
 use Rattle.writing.specs.Forms.{arrayHeader}

@@ -35,13 +35,13 @@ pub fn every_sequence_is_taken_back()
     ensures { λ _. ⌜ ((t : Bytes) (fs : Fields) (es : List Event) → fieldsOf t ≡ some fs → trace byCalls (start t) es ≡ trace byMemory (start t) es) ⌝ }
 {}
 
-// In its own words: each taking back with room for the plain form of what its update was given
-// answers 0 and writes it, and each undo call with room answers 0 and writes the undo list.
-pub fn every_promise_is_kept()
+// In demand 3's own words: each taking back with room for the plain form of what its update was
+// given answers 0 and writes it; each undo call with room for the undo list answers 0 and writes it.
+pub fn every_taking_back_writes_the_plain_form()
     ensures { λ _. ⌜ ((t : Bytes) (fs : Fields) (es : List Event) → fieldsOf t ≡ some fs → AllKept (start t) es) ⌝ }
 {}
 
-// And where all that went in are taken back, the tuple is the first one's plain form.
+// Where all that went in are taken back, the tuple is the first one's plain form.
 pub fn all_taken_back_is_the_first_tuple()
     ensures { λ _. ⌜ ((t : Bytes) (fs : Fields) (es : List Event) → fieldsOf t ≡ some fs → Home t fs (final byCalls (start t) es)) ⌝ }
 {}
