@@ -1,0 +1,1 @@
+// What is written is read back, and no shorter form is read as the same.
