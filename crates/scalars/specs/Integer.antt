@@ -2,13 +2,17 @@
 use Prim.Native.Nat.{ℕ, zero, suc, _+_, _-_, _*_, _^_}
 use mathlib.Core.List.{[], _∷_}
 use lib.Dec.{leb, ltb}
-use lib.ListN.{length, take}
+use lib.ListN.{length, take, drop, getD}
 use Rattle.first_bytes.specs.Bytes.{Bytes, pick}
-use Rattle.first_bytes.specs.FirstByte.{formOf, sameKind}
+use Rattle.first_bytes.specs.FirstByte.{formOf}
+use Rattle.first_bytes.specs.declared.Kind.{Kind}
 use Rattle.first_bytes.specs.declared.Kind.the-variants.{Unsigned, Signed}
-use Rattle.first_bytes.specs.declared.Form.{Form}
-use Rattle.first_bytes.specs.declared.Form.the-variants.{Unused, Scalar, Array, Map}
 use Rattle.values.specs.Number.{number}
+use Rattle.scalars.specs.Start.{scalarOf}
+use Rattle.scalars.specs.declared.Start.{Start}
+use Rattle.scalars.specs.declared.Start.the-variants.{Here, Elsewhere}
+use Rattle.scalars.specs.declared.Due.{Due}
+use Rattle.scalars.specs.declared.Due.the-variants.{More, Cut as CutDue, Other as OtherDue}
 use Rattle.scalars.specs.declared.Natural.{Natural}
 use Rattle.scalars.specs.declared.Natural.the-variants.{Is, Cut, Other}
 use Rattle.scalars.specs.declared.Int.{Int}
@@ -16,43 +20,54 @@ use Rattle.scalars.specs.declared.Int.the-variants.{FromZero, BelowZero}
 use Rattle.scalars.specs.declared.Integer.{Integer}
 use Rattle.scalars.specs.declared.Integer.the-variants.{Is as IsInt, Cut as CutInt, Other as OtherInt}
 
--- the number of a first byte b and the f bytes due after it: the byte itself where none is due
-unfoldable pub naturalOf : ℕ → ℕ → Bytes → ℕ
-naturalOf b zero s = b
-naturalOf b (suc f) s = number (take (suc f) s)
+-- a number of kind k at the front: how many bytes are due after its first byte, or they have not all come, or the first byte is of another kind
+unfoldable pub dueIn : Start → Bytes → Due
+dueIn (Here w f) s = pick (leb f (length s)) (More f) CutDue
+dueIn Elsewhere s = OtherDue
 
--- "Unsigned" means forms 00 to 7f and cc to cf: the first bytes of kind Unsigned (the law `unsigned-bytes`)
-unfoldable pub unsignedBy : Form → ℕ → Bytes → Natural
-unsignedBy Unused b s = Other
-unsignedBy (Scalar k w f) b s = pick (sameKind k Unsigned) (pick (leb f (length s)) (Is (naturalOf b f s) (1 + f)) Cut) Other
-unsignedBy (Array w f) b s = Other
-unsignedBy (Map w f) b s = Other
+unfoldable pub due : Kind → Bytes → Due
+due k [] = CutDue
+due k (b ∷ s) = dueIn (scalarOf k (formOf b)) s
 
+-- the number of a first byte and the f bytes due after it: the byte itself where none is due
+unfoldable pub naturalOf : ℕ → Bytes → ℕ
+naturalOf zero s = getD s 0 0
+naturalOf (suc f) s = number (take (suc f) (drop 1 s))
+
+unfoldable pub unsignedBy : Due → Bytes → Natural
+unsignedBy (More f) s = Is (naturalOf f s) (1 + f)
+unsignedBy CutDue s = Cut
+unsignedBy OtherDue s = Other
+
+-- "Unsigned" means forms 00 to 7f and cc to cf: the first bytes of kind Unsigned (computed in Examples)
 unfoldable pub unsigned : Bytes → Natural
-unsigned [] = Cut
-unsigned (b ∷ s) = unsignedBy (formOf b) b s
+unsigned s = unsignedBy (due Unsigned s) s
 
--- the number of n as w bytes in two's complement; BelowZero m is -1 - m
+-- the number that w bytes are in two's complement; BelowZero m is -1 - m
 unfoldable pub twosComplement : ℕ → ℕ → Int
 twosComplement w n = pick (ltb n (2 ^ (8 * w - 1))) (FromZero n) (BelowZero (2 ^ (8 * w) - 1 - n))
 
--- negative fixint: a byte from e0 up is that byte less 256
-unfoldable pub signedOf : ℕ → ℕ → Bytes → Int
-signedOf b zero s = BelowZero (255 - b)
-signedOf b (suc f) s = twosComplement (suc f) (number (take (suc f) s))
+-- a first byte from e0 up alone is that byte less 256
+unfoldable pub signedOf : ℕ → Bytes → Int
+signedOf zero s = BelowZero (255 - getD s 0 0)
+signedOf (suc f) s = twosComplement (suc f) (naturalOf (suc f) s)
+
+unfoldable pub signedBy : Due → Bytes → Integer
+signedBy (More f) s = IsInt (signedOf f s) (1 + f)
+signedBy CutDue s = CutInt
+signedBy OtherDue s = OtherInt
+
+unfoldable pub signed : Bytes → Integer
+signed s = signedBy (due Signed s) s
+
+unfoldable pub adding : Natural → Integer → Integer
+adding (Is n e) z = IsInt (FromZero n) e
+adding Cut z = CutInt
+adding Other z = z
 
 -- "Integer" adds e0 to ff and d0 to d3, range -2^63 to 2^64-1
-unfoldable pub integerBy : Form → ℕ → Bytes → Integer
-integerBy Unused b s = OtherInt
-integerBy (Scalar k w f) b s =
-    pick (sameKind k Unsigned) (pick (leb f (length s)) (IsInt (FromZero (naturalOf b f s)) (1 + f)) CutInt)
-    (pick (sameKind k Signed) (pick (leb f (length s)) (IsInt (signedOf b f s) (1 + f)) CutInt) OtherInt)
-integerBy (Array w f) b s = OtherInt
-integerBy (Map w f) b s = OtherInt
-
 unfoldable pub integer : Bytes → Integer
-integer [] = CutInt
-integer (b ∷ s) = integerBy (formOf b) b s
+integer s = adding (unsigned s) (signed s)
 
 -- the same, counted from k bytes before
 abbrev pub shiftNatural : ℕ → Natural → Natural

@@ -1,0 +1,2 @@
+-- Laws of numbers and headers. Assumes nothing.
+pub mod Laws

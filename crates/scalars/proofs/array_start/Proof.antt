@@ -1,0 +1,41 @@
+-- The start of an array. Assumes nothing.
+use borrow.Author.Needs.{needs}
+use Rattle.scalars.proofs.array_start.Statement.{statement}
+use Rattle.scalars.proofs.array_start.Tie as tie
+
+enum-told : tie.Need-enum-told
+enum-told c = search needs
+
+enum-told-2 : tie.Need-enum-told-2
+enum-told-2 c = search needs
+
+enum-known-form : tie.Need-enum-known-form
+enum-known-form c = search needs
+
+enum-told-3 : tie.Need-enum-told-3
+enum-told-3 c = search needs
+
+returns : tie.Need-returns
+returns c = search needs
+
+returns-2 : tie.Need-returns-2
+returns-2 c = search needs
+
+returns-3 : tie.Need-returns-3
+returns-3 c = rw (c .before .form .given .1)
+
+returns-4 : tie.Need-returns-4
+returns-4 c = search needs
+
+pub array-start-spec : {M : Type 1} → statement M
+array-start-spec =
+    tie.close
+    (tie.spec
+    enum-told
+    enum-told-2
+    enum-known-form
+    enum-told-3
+    returns
+    returns-2
+    returns-3
+    returns-4)

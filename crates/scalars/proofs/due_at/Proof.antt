@@ -1,0 +1,75 @@
+-- Cut, of another kind, or due and there, as the first byte says. Assumes nothing.
+use native.Mathlib.Omega.{arith}
+use Prim.Native.Nat.{ℕ, _+_, _<_}
+use mathlib.Core.Path.{_≡_, sym, ap, _∙_}
+use lib.ListN.{getD, length, drop}
+use Rattle.first_bytes.specs.declared.Form.{Form}
+use Rattle.scalars.specs.Start.{scalarOf}
+use Rattle.scalars.specs.Integer.{dueIn, due}
+use Rattle.scalars.proofs.Laws as Laws
+use borrow.Author.Needs.{needs}
+use Rattle.scalars.proofs.due_at.Statement.{statement}
+use Rattle.scalars.proofs.due_at.Tie as tie
+
+-- what was found is what the first byte says
+at-start : (c : tie.After-scalar-start) →
+    (let a = c .before .before .before .before .before .args in a .at < length (a .s .now) → due (a .kind) (drop (a .at) (a .s .now)) ≡ dueIn (c .scalar-start .result) (drop (a .at + 1) (a .s .now)))
+at-start c h =
+    let a = c .before .before .before .before .before .args in
+    Laws.due-start (a .kind) (a .s .now) (a .at) _ h (c .scalar-start .ensures ∙ ap (scalarOf (a .kind)) (c .before .form-of .ensures))
+
+returns : tie.Need-returns
+returns c =
+    let a = c .before .before .args in
+    Laws.due-end (a .kind) (a .s .now) (a .at) (c .if1 .taken)
+
+shared-slice-read-form-of : tie.Need-shared-slice-read-form-of
+shared-slice-read-form-of c = search needs
+
+form-of-requires : tie.Need-form-of-requires
+form-of-requires c κs = search needs
+
+scalar-start-requires : tie.Need-scalar-start-requires
+scalar-start-requires c κs = search needs
+
+enum-known-more : tie.Need-enum-known-more
+enum-known-more c = search needs
+
+enum-told : tie.Need-enum-told
+enum-told c = search needs
+
+returns-2 : tie.Need-returns-2
+unfolding dueIn
+returns-2 c =
+    let a = c .before .before .before .before .before .before .before .args in
+    rw (at-start (c .before .before) (omega arith), c .enum-told .given .1)
+
+sub-if2 : tie.Need-sub-if2
+sub-if2 c = search needs
+
+returns-3 : tie.Need-returns-3
+returns-3 c =
+    let a = c .before .before .before .before .before .before .before .before .before .args in
+    let m = c .before .before .more .given in
+    rw (at-start (c .before .before .before .before) (omega arith), m .1) (Laws.due-cut (a .s .now) (a .at) (m .0 .0) (m .0 .1 .0) (c .if2 .taken) (omega arith))
+
+returns-4 : tie.Need-returns-4
+returns-4 c =
+    let a = c .before .before .before .before .before .before .before .before .before .args in
+    let m = c .before .before .more .given in
+    rw (at-start (c .before .before .before .before) (omega arith), m .1) (Laws.due-more (a .s .now) (a .at) (m .0 .0) (m .0 .1 .0) (c .if2 .left))
+
+pub due-at-spec : {M : Type 1} → statement M
+due-at-spec =
+    tie.close
+    (tie.spec
+    returns
+    shared-slice-read-form-of
+    form-of-requires
+    scalar-start-requires
+    enum-known-more
+    enum-told
+    returns-2
+    sub-if2
+    returns-3
+    returns-4)
