@@ -20,20 +20,24 @@ use Rattle.values.specs.Value.{shift, payload, sized, items, byForm, one, conta
 use Rattle.values.specs.Pieces.{joined, Each}
 use Rattle.values.specs.declared.Read.{Read}
 use Rattle.values.specs.declared.Read.the-variants.{Whole}
+use Rattle.scalars.proofs.Laws.{doubled}
 use Rattle.values.proofs.Laws.{value-one, shift-shift}
 use Rattle.values.proofs.Local.{value-good}
 use Rattle.values.proofs.Pieces.{items-joined}
-use Rattle.scalars.specs.Integer.{naturalOf, unsignedBy, unsigned, twosComplement, signedOf, integerBy, integer}
-use Rattle.scalars.specs.Header.{counted, stringBy, arrayBy, mapBy, header}
+use Rattle.scalars.specs.Integer.{dueIn, due, naturalOf, unsignedBy, unsigned, twosComplement, signedOf, signedBy, signed, adding, integer}
+use Rattle.scalars.specs.Start.{scalarOf, stringBy, arrayBy, mapBy}
+use Rattle.scalars.specs.Header.{counted, header}
+use Rattle.scalars.specs.declared.Start.{Start}
+use Rattle.scalars.specs.declared.Start.the-variants.{Here}
 use Rattle.scalars.specs.declared.Natural.the-variants.{Is}
 use Rattle.scalars.specs.declared.Int.{Int}
 use Rattle.scalars.specs.declared.Int.the-variants.{FromZero, BelowZero}
 use Rattle.scalars.specs.declared.Integer.the-variants.{Is as IsInt}
-use Rattle.scalars.specs.declared.Header.{Header}
 use Rattle.scalars.specs.declared.Header.the-variants.{Is as IsHeader}
 use Rattle.writing.specs.Forms.{bigEndian, tagged, unsignedForm, negativeForm, stringHeader, countHeader, arrayHeader, mapHeader}
 use Rattle.writing.proofs.Choice.{by-ltb}
 use Rattle.writing.proofs.Lengths.{length-bigEndian, length-tagged}
+use Rattle.read_back.specs.Claims.{integerForm, InRange, stringForm, NumbersReadBack, StringsReadBack, ContainersReadBack}
 use Rattle.read_back.proofs.Digits.{number-bigEndian}
 
 -- ---- the bytes of a number, and what follows them
@@ -49,14 +53,14 @@ module _ (w x : ℕ) (t : Bytes) where
   unfolding sized
   sized-back next h = rw (le-leb w _ there, digits-back h, drop-at (bigEndian w x) t w (length-bigEndian w x))
 
-  counted-back : (f : ℕ) → x < 256 ^ w → counted w f (bigEndian w x ++ t) ≡ IsHeader (x + f) (1 + w)
+  counted-back : (f : ℕ) → x < 256 ^ w → counted (Here w f) (bigEndian w x ++ t) ≡ IsHeader (x + f) (1 + w)
   unfolding counted
   counted-back f h = rw (le-leb w _ there, digits-back h)
 
--- ---- numbers: p is a first byte that says the kind and its f bytes, which `of` reads as z
+-- ---- numbers: p is a first byte of the kind and its f bytes, which `of` reads as z, whatever follows
 
-pub data Means {A : Type 0} (kind : Kind) (of : ℕ → ℕ → Bytes → A) (z : A) : Bytes → Type 0 where
-  means : (b f x : ℕ) → formOf b ≡ Scalar kind 0 f → ((t : Bytes) → of b f (bigEndian f x ++ t) ≡ z) → Means kind of z (tagged b f x)
+data Means {A : Type 0} (kind : Kind) (of : ℕ → Bytes → A) (z : A) : Bytes → Type 0 where
+  means : (b f x : ℕ) → formOf b ≡ Scalar kind 0 f → ((t : Bytes) → of f (b ∷ (bigEndian f x ++ t)) ≡ z) → Means kind of z (tagged b f x)
 
 unsigned-shape : (n : ℕ) → n < 2 ^ 64 → Means Unsigned naturalOf n (unsignedForm n)
 unfolding unsignedForm bigEndian formOf naturalOf
@@ -67,10 +71,11 @@ unsigned-shape n h =
     (λ _. by-ltb (Means Unsigned naturalOf n) n (2 ^ 32) (λ k. means 0xce 4 n refl (λ t. digits-back 4 n t k))
     (λ _. means 0xcf 8 n refl (λ t. digits-back 8 n t h)))))
 
-signed-back : (b f m : ℕ) (t : Bytes) → 2 ^ (8 * suc f) ≡ 256 ^ suc f → 2 ^ (8 * suc f) ≡ 2 * 2 ^ (8 * suc f - 1) → m < 2 ^ (8 * suc f - 1)
-    → signedOf b (suc f) (bigEndian (suc f) (2 ^ (8 * suc f) - 1 - m) ++ t) ≡ BelowZero m
-unfolding signedOf twosComplement
-signed-back b f m t p q h =
+signed-back : (b f m : ℕ) (t : Bytes) → 2 ^ (8 * suc f) ≡ 256 ^ suc f → m < 2 ^ (8 * suc f - 1)
+    → signedOf (suc f) (b ∷ (bigEndian (suc f) (2 ^ (8 * suc f) - 1 - m) ++ t)) ≡ BelowZero m
+unfolding signedOf twosComplement naturalOf
+signed-back b f m t p h =
+    let q = doubled (suc f) (omega arith) in
     let x = 2 ^ (8 * suc f) - 1 - m in
     rw (digits-back (suc f) x t (omega arith), le-ltb x (2 ^ (8 * suc f - 1)) (omega arith)) (ap BelowZero (omega arith))
 
@@ -79,52 +84,42 @@ unfolding negativeForm bigEndian formOf signedOf
 negative-shape m h =
     by-ltb (Means Signed signedOf (BelowZero m)) m 32
     (λ k. means (255 - m) 0 0 (agree formOf (λ _. Scalar Signed 0 0) 0xe0 32 tt (255 - m) (omega arith) (omega arith)) (λ t. ap BelowZero (omega arith)))
-    (λ _. by-ltb (Means Signed signedOf (BelowZero m)) m (2 ^ 7) (λ k. means 0xd0 1 (2 ^ 8 - 1 - m) refl (λ t. signed-back 0xd0 0 m t refl refl k))
-    (λ _. by-ltb (Means Signed signedOf (BelowZero m)) m (2 ^ 15) (λ k. means 0xd1 2 (2 ^ 16 - 1 - m) refl (λ t. signed-back 0xd1 1 m t refl refl k))
-    (λ _. by-ltb (Means Signed signedOf (BelowZero m)) m (2 ^ 31) (λ k. means 0xd2 4 (2 ^ 32 - 1 - m) refl (λ t. signed-back 0xd2 3 m t refl refl k))
-    (λ _. by-ltb (Means Signed signedOf (BelowZero m)) m (2 ^ 63) (λ k. means 0xd3 8 (2 ^ 64 - 1 - m) refl (λ t. signed-back 0xd3 7 m t refl refl k))
+    (λ _. by-ltb (Means Signed signedOf (BelowZero m)) m (2 ^ 7) (λ k. means 0xd0 1 (2 ^ 8 - 1 - m) refl (λ t. signed-back 0xd0 0 m t refl k))
+    (λ _. by-ltb (Means Signed signedOf (BelowZero m)) m (2 ^ 15) (λ k. means 0xd1 2 (2 ^ 16 - 1 - m) refl (λ t. signed-back 0xd1 1 m t refl k))
+    (λ _. by-ltb (Means Signed signedOf (BelowZero m)) m (2 ^ 31) (λ k. means 0xd2 4 (2 ^ 32 - 1 - m) refl (λ t. signed-back 0xd2 3 m t refl k))
+    (λ _. by-ltb (Means Signed signedOf (BelowZero m)) m (2 ^ 63) (λ k. means 0xd3 8 (2 ^ 64 - 1 - m) refl (λ t. signed-back 0xd3 7 m t refl k))
     (λ k. absurd (omega arith))))))
 
 -- what each reader says of such a p
 unsigned-of : {n : ℕ} {p : Bytes} (t : Bytes) → Means Unsigned naturalOf n p → unsigned (p ++ t) ≡ Is n (length p)
-unfolding unsigned unsignedBy sameKind
+unfolding unsigned unsignedBy due dueIn sameKind
 unsigned-of t (means b f x e r) = rw (e, le-leb f _ (there f x t), r t, length-bigEndian f x, one-add)
 
-from-zero-of : {n : ℕ} {p : Bytes} (t : Bytes) → Means Unsigned naturalOf n p → integer (p ++ t) ≡ IsInt (FromZero n) (length p)
-unfolding integer integerBy sameKind
-from-zero-of t (means b f x e r) = rw (e, le-leb f _ (there f x t), r t, length-bigEndian f x, one-add)
+negative-of : {z : Int} {p : Bytes} (t : Bytes) → Means Signed signedOf z p → integer (p ++ t) ≡ IsInt z (length p)
+unfolding integer adding unsigned unsignedBy signed signedBy due dueIn sameKind
+negative-of t (means b f x e r) = rw (e, le-leb f _ (there f x t), r t, length-bigEndian f x, one-add)
 
-below-zero-of : {z : Int} {p : Bytes} (t : Bytes) → Means Signed signedOf z p → integer (p ++ t) ≡ IsInt z (length p)
-unfolding integer integerBy sameKind
-below-zero-of t (means b f x e r) = rw (e, le-leb f _ (there f x t), r t, length-bigEndian f x, one-add)
-
-whole-of : {A : Type 0} {kind : Kind} {of : ℕ → ℕ → Bytes → A} {z : A} {p : Bytes} (d : ℕ) (t : Bytes) → Means kind of z p
+whole-of : {A : Type 0} {kind : Kind} {of : ℕ → Bytes → A} {z : A} {p : Bytes} (d : ℕ) (t : Bytes) → Means kind of z p
     → value d (p ++ t) ≡ Whole (length p)
 unfolding one byForm sized payload number
-whole-of d t (means b f x e r) = rw (value-one, e, zero-add, le-leb 0 (length (bigEndian f x ++ t)) (omega arith), le-leb f _ (there f x t), zero-add, length-bigEndian f x, one-add)
+whole-of d t (means b f x e r) =
+    rw (value-one, e, zero-add, le-leb 0 (length (bigEndian f x ++ t)) (omega arith), le-leb f _ (there f x t), zero-add, length-bigEndian f x, one-add)
 
--- numbers from 0 up
-module _ (n : ℕ) (h : n < 2 ^ 64) (t : Bytes) where
-  pub unsigned-back : unsigned (unsignedForm n ++ t) ≡ Is n (length (unsignedForm n))
-  unsigned-back = unsigned-of t (unsigned-shape n h)
+pub unsigned-back : (n : ℕ) (t : Bytes) → n < 2 ^ 64 → unsigned (unsignedForm n ++ t) ≡ Is n (length (unsignedForm n))
+unsigned-back n t h = unsigned-of t (unsigned-shape n h)
 
-  pub integer-back : integer (unsignedForm n ++ t) ≡ IsInt (FromZero n) (length (unsignedForm n))
-  integer-back = from-zero-of t (unsigned-shape n h)
+pub integer-back : (z : Int) (t : Bytes) → InRange z → integer (integerForm z ++ t) ≡ IsInt z (length (integerForm z))
+unfolding integer adding
+integer-back (FromZero n) t h = rw (unsigned-back n t h)
+integer-back (BelowZero m) t h = negative-of t (negative-shape m h)
 
-  pub unsigned-whole : (d : ℕ) → value d (unsignedForm n ++ t) ≡ Whole (length (unsignedForm n))
-  unsigned-whole d = whole-of d t (unsigned-shape n h)
-
--- and below 0: -1 - m
-module _ (m : ℕ) (h : m < 2 ^ 63) (t : Bytes) where
-  pub negative-back : integer (negativeForm m ++ t) ≡ IsInt (BelowZero m) (length (negativeForm m))
-  negative-back = below-zero-of t (negative-shape m h)
-
-  pub negative-whole : (d : ℕ) → value d (negativeForm m ++ t) ≡ Whole (length (negativeForm m))
-  negative-whole d = whole-of d t (negative-shape m h)
+pub integer-whole : (d : ℕ) (z : Int) (t : Bytes) → InRange z → value d (integerForm z ++ t) ≡ Whole (length (integerForm z))
+integer-whole d (FromZero n) t h = whole-of d t (unsigned-shape n h)
+integer-whole d (BelowZero m) t h = whole-of d t (negative-shape m h)
 
 -- ---- headers: p is a first byte that says form w f, and w bytes of a number x, with x + f in all
 
-pub data Counts (form : ℕ → ℕ → Form) (n : ℕ) : Bytes → Type 0 where
+data Counts (form : ℕ → ℕ → Form) (n : ℕ) : Bytes → Type 0 where
   counts : (b w f x : ℕ) → formOf b ≡ form w f → x < 256 ^ w → x + f ≡ n → Counts form n (tagged b w x)
 
 string-shape : (n : ℕ) → n < 2 ^ 32 → Counts (Scalar String) n (stringHeader n)
@@ -159,22 +154,20 @@ map-shape n =
     count-shape MapOf 0x80 0xde n
     (λ k. agree formOf (λ b. Map 0 (2 * (b - 0x80))) 0x80 16 tt (0x80 + n) (omega arith) (omega arith) ∙ ap (Map 0) (omega arith)) refl refl
 
-header-of : (by : Form → Bytes → Header) {form : ℕ → ℕ → Form} {n : ℕ} {p : Bytes} (t : Bytes) → ((w f : ℕ) (s : Bytes) → by (form w f) s ≡ counted w f s)
+header-of : (by : Form → Start) {form : ℕ → ℕ → Form} {n : ℕ} {p : Bytes} (t : Bytes) → ((w f : ℕ) → by (form w f) ≡ Here w f)
     → Counts form n p → header by (p ++ t) ≡ IsHeader n (length p)
 unfolding header
 header-of by t r (counts b w f x e h s) = rw (e, r w f, counted-back w x t f h, s, length-bigEndian w x, one-add)
 
-pub string-header-back : (n : ℕ) → n < 2 ^ 32 → (t : Bytes) → header stringBy (stringHeader n ++ t) ≡ IsHeader n (length (stringHeader n))
-unfolding stringBy sameKind
-string-header-back n h t = header-of stringBy t (λ w f s. refl) (string-shape n h)
+pub string-header-back : (n : ℕ) (t : Bytes) → n < 2 ^ 32 → header stringBy (stringHeader n ++ t) ≡ IsHeader n (length (stringHeader n))
+unfolding sameKind
+string-header-back n t h = header-of stringBy t (λ w f. refl) (string-shape n h)
 
-pub array-header-back : (n : ℕ) → n < 2 ^ 32 → (t : Bytes) → header arrayBy (arrayHeader n ++ t) ≡ IsHeader n (length (arrayHeader n))
-unfolding arrayBy
-array-header-back n h t = header-of arrayBy t (λ w f s. refl) (array-shape n h)
+pub array-header-back : (n : ℕ) (t : Bytes) → n < 2 ^ 32 → header arrayBy (arrayHeader n ++ t) ≡ IsHeader n (length (arrayHeader n))
+array-header-back n t h = header-of arrayBy t (λ w f. refl) (array-shape n h)
 
-pub map-header-back : (n : ℕ) → n < 2 ^ 32 → (t : Bytes) → header mapBy (mapHeader n ++ t) ≡ IsHeader n (length (mapHeader n))
-unfolding mapBy
-map-header-back n h t = header-of mapBy t (λ w f s. let e : 2 * f / 2 ≡ f = omega arith in rw e) (map-shape n h)
+pub map-header-back : (n : ℕ) (t : Bytes) → n < 2 ^ 32 → header mapBy (mapHeader n ++ t) ≡ IsHeader n (length (mapHeader n))
+map-header-back n t h = header-of mapBy t (λ w f. let e : 2 * f / 2 ≡ f = omega arith in rw e) (map-shape n h)
 
 -- a header, and then what is due after it
 begun-of : {form : ℕ → ℕ → Form} {n : ℕ} {p : Bytes} (d : ℕ) (t : Bytes) (due : Read)
@@ -205,32 +198,40 @@ module _ (d : ℕ) (t : Bytes) where
 
 -- ---- a header followed by its content is one whole value
 
-module _ (v : Bytes → Read) (h c t : Bytes) where
-  completed : (due : Read) → v (h ++ (c ++ t)) ≡ shift (length h) due → due ≡ Whole (length c) → v ((h ++ c) ++ t) ≡ Whole (length (h ++ c))
-  completed due e f = rw (append-assoc, e, f, length-append)
+completed : (v : Bytes → Read) (h c t : Bytes) (due : Read) → v (h ++ (c ++ t)) ≡ shift (length h) due → due ≡ Whole (length c)
+    → v ((h ++ c) ++ t) ≡ Whole (length (h ++ c))
+completed v h c t due e f = rw (append-assoc, e, f, length-append)
 
 payload-whole : (s t : Bytes) → payload (length s) (s ++ t) ≡ Whole (length s)
 unfolding payload
 payload-whole s t = rw (le-leb (length s) (length (s ++ t)) (rw length-append (omega arith)))
 
-module _ (s t : Bytes) (h : length s < 2 ^ 32) where
-  pub string-whole : (d : ℕ) → value d ((stringHeader (length s) ++ s) ++ t) ≡ Whole (length (stringHeader (length s) ++ s))
-  string-whole d = completed (value d) (stringHeader (length s)) s t _ (string-begun d (s ++ t) (length s) h) (payload-whole s t)
+pub string-whole : (d : ℕ) (s t : Bytes) → length s < 2 ^ 32 → value d (stringForm s ++ t) ≡ Whole (length (stringForm s))
+string-whole d s t h = completed (value d) (stringHeader (length s)) s t _ (string-begun d (s ++ t) (length s) h) (payload-whole s t)
 
-  -- the same length, and the same bytes
-  pub string-back : header stringBy ((stringHeader (length s) ++ s) ++ t) ≡ IsHeader (length s) (length (stringHeader (length s)))
-  string-back = rw append-assoc (string-header-back (length s) h (s ++ t))
+module _ (d n : ℕ) (fs : List Bytes) (t : Bytes) (e : Each (value d) fs) where
+  pub array-whole : length fs ≡ n → n < 2 ^ 32 → value (suc d) ((arrayHeader n ++ joined fs) ++ t) ≡ Whole (length (arrayHeader n ++ joined fs))
+  array-whole l h =
+      completed (value (suc d)) (arrayHeader n) (joined fs) t _ (array-begun d (joined fs ++ t) n h)
+      (rw l at (items-joined (value d) (value-good d) e t .0))
 
-  pub string-content : take (length s) (drop (length (stringHeader (length s))) ((stringHeader (length s) ++ s) ++ t)) ≡ s
-  string-content = rw (append-assoc, drop-append-seam, take-append-seam)
-
-module _ (d : ℕ) {fs : List Bytes} (e : Each (value d) fs) (t : Bytes) where
-  pub array-whole : length fs < 2 ^ 32 → value (suc d) ((arrayHeader (length fs) ++ joined fs) ++ t) ≡ Whole (length (arrayHeader (length fs) ++ joined fs))
-  array-whole h =
-      completed (value (suc d)) (arrayHeader (length fs)) (joined fs) t _ (array-begun d (joined fs ++ t) (length fs) h)
-      (items-joined (value d) (value-good d) e t .0)
-
-  pub map-whole : (n : ℕ) → length fs ≡ 2 * n → n < 2 ^ 32 → value (suc d) ((mapHeader n ++ joined fs) ++ t) ≡ Whole (length (mapHeader n ++ joined fs))
-  map-whole n l h =
+  pub map-whole : length fs ≡ 2 * n → n < 2 ^ 32 → value (suc d) ((mapHeader n ++ joined fs) ++ t) ≡ Whole (length (mapHeader n ++ joined fs))
+  map-whole l h =
       completed (value (suc d)) (mapHeader n) (joined fs) t _ (map-begun d (joined fs ++ t) n h)
       (rw l at (items-joined (value d) (value-good d) e t .0))
+
+-- ---- the claims
+
+pub numbers-read-back : NumbersReadBack
+numbers-read-back = record { natural = unsigned-back; integers = integer-back; whole = integer-whole }
+
+pub strings-read-back : StringsReadBack
+strings-read-back =
+    record {
+      long = λ s t h. rw append-assoc (string-header-back (length s) (s ++ t) h);
+      bytes = λ s t. rw (append-assoc, drop-append-seam, take-append-seam);
+      whole = string-whole;
+    }
+
+pub containers-read-back : ContainersReadBack
+containers-read-back = record { array = array-header-back; entries = map-header-back; whole-array = array-whole; whole-map = map-whole }

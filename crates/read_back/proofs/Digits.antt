@@ -5,12 +5,13 @@ use Prim.Native.Nat.{ℕ, zero, suc, _+_, _*_, _^_, _<_, _≤_, _/_, _%_}
 use native.Mathlib.Nat.{pow-suc, pow-succ'}
 use native.Mathlib.Omega.{arith}
 use lib.Arith.{digits-lt}
-use lib.ListN.{length, take, getD}
+use lib.ListN.{length, take}
 use lib.Seq.{length-take-le}
 use Rattle.first_bytes.specs.Bytes.{Bytes}
 use Rattle.values.specs.Number.{number}
 use Rattle.values.proofs.Big.{number-last}
 use Rattle.writing.specs.Forms.{bigEndian}
+use Rattle.read_back.specs.Claims.{Octets}
 
 pub number-bigEndian : (w n : ℕ) → n < 256 ^ w → number (bigEndian w n) ≡ n
 unfolding bigEndian number
@@ -19,10 +20,6 @@ number-bigEndian (suc w) n h =
     let p : 256 ^ suc w ≡ 256 ^ w * 256 = pow-suc 256 w in
     let k : n / 256 < 256 ^ w = omega arith in
     number-last (bigEndian w (n / 256)) (n % 256) ∙ rw (number-bigEndian w (n / 256) k) (omega arith)
-
--- each byte is below 256, as those of every slice are
-abbrev pub Octets : Bytes → Type 0
-Octets s = (i : ℕ) → getD s i 0 < 256
 
 number-below : (s : Bytes) → Octets s → number s < 256 ^ length s
 unfolding number
