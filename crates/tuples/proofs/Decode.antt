@@ -160,7 +160,7 @@ module _ {A B : Type 0} where
 
 count-back : (n : ℕ) → n < 2 ^ 32 → ReadAs count (arrayHeader n) n
 unfolding count countFrom
-count-back n h = record { off = λ m. rw (array-header-back n h m, drop-append-seam (arrayHeader n) m) }
+count-back n h = record { off = λ m. rw (array-header-back n m h, drop-append-seam (arrayHeader n) m) }
 
 mark-back : (c : ℕ) → ReadAs mark (stringHeader 1 ++ (c ∷ [])) c
 unfolding mark stringHeader
@@ -168,7 +168,7 @@ mark-back c = record { off = λ m. refl }
 
 number-back : (n : ℕ) → n < 2 ^ 64 → ReadAs anyInteger (unsignedForm n) (FromZero n)
 unfolding anyInteger integerFrom
-number-back n h = record { off = λ m. rw (integer-back n h m, drop-append-seam (unsignedForm n) m) }
+number-back n h = record { off = λ m. rw (integer-back (FromZero n) m h, drop-append-seam (unsignedForm n) m) }
 
 value-back : (b : Bytes) → Single (value fieldDepth) b → ReadAs anyValue b b
 unfolding anyValue valueFrom

@@ -18,13 +18,14 @@ use Rattle.values.specs.Pieces.{Single}
 use Rattle.scalars.specs.declared.Int.{Int}
 use Rattle.scalars.specs.declared.Int.the-variants.{FromZero, BelowZero}
 use Rattle.writing.specs.Forms.{bigEndian, unsignedForm, stringHeader}
-use Rattle.read_back.proofs.Back.{unsigned-whole, negative-whole, string-whole}
+use Rattle.read_back.specs.Claims.{stringForm}
+use Rattle.read_back.proofs.Back.{integer-whole, string-whole}
 use Rattle.writing.proofs.Choice.{by-leb, by-ltb, either}
 use Rattle.tuples.specs.Limits.{maxTuple, fieldDepth}
 use Rattle.tuples.specs.Tuple.{Fields}
 use Rattle.tuples.specs.Decoding.{Got, fails, gets, Decoder, anyInteger, atLeast, string}
 use Rattle.tuples.specs.Operation.{Action, plus, minus, and, xor, or, assign, insert, remove, splice, Operation}
-use Rattle.tuples.specs.Edit.{Edit, refuse, put, add, cut, asℤ, ranged, stringForm, became, suited, altered, editAt, fieldAt, Plan, planOf, plans}
+use Rattle.tuples.specs.Edit.{Edit, refuse, put, add, cut, asℤ, ranged, spliced, became, suited, altered, editAt, fieldAt, Plan, planOf, plans}
 use Rattle.tuples.specs.declared.Refusal.the-variants.{NoField}
 use Rattle.tuples.proofs.Decode.{Fine, FineOperation, AllFine, end, fine}
 
@@ -45,18 +46,17 @@ wide-value n h =
     rw (le-ltb n 128 (omega arith), le-ltb n (2 ^ 8) (omega arith), le-ltb n (2 ^ 16) (omega arith), le-ltb n (2 ^ 32) (omega arith))
 
 unsigned-value : (n : ℕ) → Single (value fieldDepth) (unsignedForm n)
-unsigned-value n = ⊎-elim (λ h. wide-value n h) (λ h. rw append-nil at (unsigned-whole n h [] fieldDepth)) (either (2 ^ 64) n)
+unsigned-value n = ⊎-elim (λ h. wide-value n h) (λ h. rw append-nil at (integer-whole fieldDepth (FromZero n) [] h)) (either (2 ^ 64) n)
 
 ranged-brings : (z : ℤ) → Brings (ranged z)
 unfolding ranged
 ranged-brings (pos n) = by-ltb Brings n (2 ^ 64) (λ h _. unsigned-value n) (λ _. tt)
-ranged-brings (negsuc m) = by-ltb Brings m (2 ^ 63) (λ h _. rw append-nil at (negative-whole m h [] fieldDepth)) (λ _. tt)
+ranged-brings (negsuc m) = by-ltb Brings m (2 ^ 63) (λ h _. rw append-nil at (integer-whole fieldDepth (BelowZero m) [] h)) (λ _. tt)
 
 string-brief : (s : Bytes) → Brief (stringForm s)
-unfolding stringForm
 string-brief s h =
     let l = length-append (stringHeader (length s)) s in
-    rw append-nil at (string-whole s [] (omega arith) fieldDepth)
+    rw append-nil at (string-whole fieldDepth s [] (omega arith))
 
 -- ---- edits
 
@@ -95,7 +95,7 @@ edit-sound (assign b) k f t =
     appended false e = tt
 edit-sound (insert b) k f t = by-leb (λ e. Sound e t) f (length t) (λ l. (l, λ _. k)) (λ _. tt)
 edit-sound (remove m) k f t = by-ltb (λ e. Sound e t) f (length t) (λ l. l) (λ _. tt)
-edit-sound (splice p c a) k f t = altered-sound string _ (λ s. string-brief _) f t
+edit-sound (splice p c a) k f t = altered-sound string _ (λ s. string-brief (spliced p c a s)) f t
 
 pub plan-sound : (o : Operation) → FineOperation o → (t : Fields) → Sound (planOf o t) t
 unfolding planOf fieldAt

@@ -124,7 +124,7 @@ fields-legal t fs h =
 pub read-plain : (fs : Fields) → Legal fs → fieldsOf (plain fs) ≡ some fs
 unfolding fieldsOf fieldsBy values filling
 read-plain fs g =
-    let h : header arrayBy (plain fs) ≡ Is (length fs) (length (arrayHeader (length fs))) = unfold plain in array-header-back (length fs) (omega arith) (joined fs) in
+    let h : header arrayBy (plain fs) ≡ Is (length fs) (length (arrayHeader (length fs))) = unfold plain in array-header-back (length fs) (joined fs) (omega arith) in
     let d : drop (length (arrayHeader (length fs))) (plain fs) ≡ joined fs = unfold plain in drop-append-seam (arrayHeader (length fs)) (joined fs) in
     let (i, p) = items-joined (value fieldDepth) (value-good fieldDepth) (g .whole) [] in
     rw (le-leb _ _ (g .fit .short), h) (rw (le-leb _ _ (g .fit .few), d) (filled i p))

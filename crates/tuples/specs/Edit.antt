@@ -11,6 +11,7 @@ use Rattle.first_bytes.specs.Bytes.{Bytes, pick}
 use Rattle.scalars.specs.declared.Int.{Int}
 use Rattle.scalars.specs.declared.Int.the-variants.{FromZero, BelowZero}
 use Rattle.writing.specs.Forms.{unsignedForm, negativeForm, stringHeader, arrayHeader}
+use Rattle.read_back.specs.Claims.{stringForm}
 use Rattle.tuples.specs.Limits.{maxFields, maxTuple}
 use Rattle.tuples.specs.Tuple.{Fields, plain}
 use Rattle.tuples.specs.Decoding.{Got, fails, gets, Decoder, anyInteger, atLeast, string}
@@ -38,9 +39,6 @@ ranged (negsuc m) = pick (ltb m (2 ^ 63)) (some (negativeForm m)) none
 -- from p on, c go and a comes in their place: "p past the string's end means its end; a count past the end stops there", as take and drop do
 unfoldable pub spliced : {A : Type 0} → ℕ → ℕ → List A → List A → List A
 spliced p c a s = take p s ++ (a ++ drop (p + c) s)
-
-unfoldable pub stringForm : Bytes → Bytes
-stringForm s = stringHeader (length s) ++ s
 
 -- "15: sum or difference out of range"
 unfoldable pub became : ℕ → Option Bytes → Edit

@@ -15,7 +15,7 @@ use Rattle.writing.specs.Forms.{bigEndian, unsignedForm, negativeForm, stringHe
 use Rattle.tuples.specs.Tuple.{plain, filling, values, fieldsBy, fieldsOf}
 use Rattle.tuples.specs.Decoding.{onGot, then, made, nothing, valueFrom, anyValue, integerFrom, anyInteger, less, floor, atLeast, position, stringFrom, string, countFrom, count, mark}
 use Rattle.tuples.specs.Operation.{three, five, actionOf, operation, before, andMore, operations, listBy, operationsOf}
-use Rattle.tuples.specs.Edit.{asℤ, ranged, spliced, stringForm, became, suited, altered, editAt, fieldAt, planOf, plans, fits, limited, perform, step, run, operationBytes, restored, inverse, undoOf}
+use Rattle.tuples.specs.Edit.{asℤ, ranged, spliced, became, suited, altered, editAt, fieldAt, planOf, plans, fits, limited, perform, step, run, operationBytes, restored, inverse, undoOf}
 use Rattle.tuples.specs.Call.{numberOf, judged, onRun, updateOf, limitedList, undoListOf, update, undo, Result, refusing, writing, delivered, updateCall, undoCall}
 use Rattle.tuples.specs.Sequence.{Event, change, back, Shown, start, plainBy, plainOf, wrote, byCalls, byMemory, entered, taken, takenTop, after, callTop, callOf, listing, undoneOf, trace}
 
@@ -182,5 +182,5 @@ shows =
     ∷ []
 
 pub worked : (map computed known ≡ known) × ((map computed rules ≡ rules) × ((trace byCalls (start first) events ≡ shows) × (trace byMemory (start first) events ≡ shows)))
-unfolding formOf sameKind number payload sized items byForm one tooDeep container value pieces joined dueIn due naturalOf unsignedBy unsigned twosComplement signedOf signedBy signed adding integer counted header bigEndian unsignedForm negativeForm stringHeader arrayHeader plain filling values fieldsBy fieldsOf onGot then made nothing valueFrom anyValue integerFrom anyInteger less floor atLeast position stringFrom string countFrom count mark three five actionOf operation before andMore operations listBy operationsOf asℤ ranged spliced stringForm became suited altered editAt fieldAt planOf plans fits limited perform step run operationBytes restored inverse undoOf numberOf judged onRun updateOf limitedList undoListOf update undo refusing writing delivered updateCall undoCall start plainBy plainOf wrote byCalls byMemory entered taken takenTop after callTop callOf listing undoneOf trace
+unfolding formOf sameKind number payload sized items byForm one tooDeep container value pieces joined dueIn due naturalOf unsignedBy unsigned twosComplement signedOf signedBy signed adding integer counted header bigEndian unsignedForm negativeForm stringHeader arrayHeader plain filling values fieldsBy fieldsOf onGot then made nothing valueFrom anyValue integerFrom anyInteger less floor atLeast position stringFrom string countFrom count mark three five actionOf operation before andMore operations listBy operationsOf asℤ ranged spliced became suited altered editAt fieldAt planOf plans fits limited perform step run operationBytes restored inverse undoOf numberOf judged onRun updateOf limitedList undoListOf update undo refusing writing delivered updateCall undoCall start plainBy plainOf wrote byCalls byMemory entered taken takenTop after callTop callOf listing undoneOf trace
 worked = (refl, (refl, (refl, refl)))
