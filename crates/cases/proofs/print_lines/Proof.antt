@@ -1,8 +1,8 @@
 use borrow.Author.Needs.{needs}
 use Prim.Native.Nat.{_-_}
 use lib.ListN.{length}
-use Rattle.vectors.proofs.print_lines.Statement.{statement}
-use Rattle.vectors.proofs.print_lines.Tie as tie
+use Rattle.cases.proofs.print_lines.Statement.{statement}
+use Rattle.cases.proofs.print_lines.Tie as tie
 
 abbrev Inv-loop : tie.InvT-loop
 Inv-loop input at₀ at = Unit {0}

@@ -1,7 +1,7 @@
 use Prim.Native.Nat.{_-_}
 use borrow.Author.Needs.{needs}
-use Rattle.vectors.proofs.print_first_bytes.Statement.{statement}
-use Rattle.vectors.proofs.print_first_bytes.Tie as tie
+use Rattle.cases.proofs.value_cases.print_first_bytes.Statement.{statement}
+use Rattle.cases.proofs.value_cases.print_first_bytes.Tie as tie
 
 abbrev Inv-loop : tie.InvT-loop
 Inv-loop b₀ t2 t3 b = Unit {0}
