@@ -9,7 +9,7 @@ use Rattle.first_bytes.specs.FirstByte.{formOf, sameKind}
 use Rattle.values.specs.Number.{number as sum}
 use Rattle.values.specs.Value.{value, one, container, tooDeep, byForm, items, sized, payload}
 use Rattle.values.specs.Pieces.{joined}
-use Rattle.scalars.specs.Integer.{naturalOf, unsignedIn, unsigned}
+use Rattle.scalars.specs.Integer.{dueIn, due, naturalOf, unsignedBy, unsigned}
 use Rattle.scalars.specs.Header.{counted, header}
 use Rattle.writing.specs.Forms.{bigEndian, unsignedForm, mapHeader}
 use Rattle.frames.specs.declared.OptionalNumber.{OptionalNumber}
@@ -17,7 +17,7 @@ use Rattle.frames.specs.declared.Frame.{Frame}
 use Rattle.frames.specs.Held.{all, view, natural, numberIn, opened, suits, numbered, heldIn, heldAt, numberHeld, placeHeld, encoded, present, locate}
 use Rattle.frames.specs.Keys.{headerItems, bodyItems, optional, codeIn, frameAt, nowhere, emptyFrame}
 use Rattle.frames.specs.Codes.{codes, among, isError, required}
-use Rattle.frames.specs.Maps.{keyed, valued, after, entries, entriesBy, entriesAt, keys, has, distinct, placed, find}
+use Rattle.frames.specs.Maps.{keyed, entryAt, entries, entriesBy, entriesAt, keys, has, distinct, placed, find}
 use Rattle.frames.specs.Cascade.{check, given, whole}
 use Rattle.frames.specs.Reading.{refuse, accept, suited, byPlaces, byEntries, bodyValue, bodyEntries, inFrame, sizeBy, sizeOf, bySize, frameRead}
 use Rattle.frames.specs.Writing.{onto, pairs, flat, mapForm, contents, frameForm, isWhole, sound, each, refused, written, writeItems, frameWrite}
@@ -118,7 +118,7 @@ cases =
     ∷ [])
 
 examples : map (λ (c : Case). c .shows) cases ≡ map (λ (c : Case). c .due) cases
-unfolding frameRead bySize sizeOf sizeBy inFrame bodyEntries bodyValue byEntries byPlaces suited accept refuse whole given check find distinct has keys entriesAt entriesBy entries after valued keyed required isError among codes emptyFrame frameAt codeIn optional headerItems bodyItems numberHeld placeHeld heldAt heldIn numbered suits opened numberIn natural view all value one container tooDeep byForm items sized payload sum formOf sameKind unsigned unsignedIn naturalOf header counted
+unfolding frameRead bySize sizeOf sizeBy inFrame bodyEntries bodyValue byEntries byPlaces suited accept refuse whole given check find distinct has keys entriesAt entriesBy entries entryAt keyed required isError among codes emptyFrame frameAt codeIn optional headerItems bodyItems numberHeld placeHeld heldAt heldIn numbered suits opened numberIn natural view all value one container tooDeep byForm items sized payload sum formOf sameKind unsigned unsignedBy due dueIn naturalOf header counted
 examples = refl
 
 -- ---- a record read, and written with its keys rising
@@ -153,7 +153,7 @@ selected =
     }
 
 select-read : frameRead select ≡ accept 32 selected
-unfolding frameRead bySize sizeOf sizeBy inFrame bodyEntries bodyValue byEntries byPlaces suited refuse whole given check find distinct has keys entriesAt entriesBy entries after valued keyed required isError among codes emptyFrame frameAt codeIn optional headerItems bodyItems numberHeld placeHeld heldAt heldIn numbered suits opened numberIn natural view all value one container tooDeep byForm items sized payload sum formOf sameKind unsigned unsignedIn naturalOf header counted
+unfolding frameRead bySize sizeOf sizeBy inFrame bodyEntries bodyValue byEntries byPlaces suited refuse whole given check find distinct has keys entriesAt entriesBy entries entryAt keyed required isError among codes emptyFrame frameAt codeIn optional headerItems bodyItems numberHeld placeHeld heldAt heldIn numbered suits opened numberIn natural view all value one container tooDeep byForm items sized payload sum formOf sameKind unsigned unsignedBy due dueIn naturalOf header counted
 select-read = refl
 
 abbrev rising : Bytes

@@ -3,8 +3,8 @@ pub mod Limits
 pub mod Held
 pub mod Keys
 pub mod Codes
-pub mod Maps
 pub mod Cascade
+pub mod Maps
 pub mod Reading
 pub mod Writing
 pub mod RoundTrip

@@ -7,8 +7,6 @@ use lib.Dec.{leb, eqb}
 use lib.ListN.{drop}
 use Rattle.first_bytes.specs.Bytes.{Bytes, pick}
 use Rattle.values.specs.Value.{value}
-use Rattle.values.specs.declared.Read.{Read}
-use Rattle.values.specs.declared.Read.the-variants.{Whole, Broken}
 use Rattle.scalars.specs.Start.{mapBy}
 use Rattle.scalars.specs.Integer.{unsigned}
 use Rattle.scalars.specs.Header.{header}
@@ -19,6 +17,7 @@ use Rattle.scalars.specs.declared.Header.the-variants.{Is as Opens, Other as El
 use Rattle.frames.specs.declared.Place.{Place}
 use Rattle.frames.specs.Limits.{maxKey}
 use Rattle.frames.specs.Keys.{nowhere}
+use Rattle.frames.specs.Cascade.{check, given, whole}
 
 pub record Entry : Type 0 where
   pub key : ℕ
@@ -32,23 +31,19 @@ entry k a n = record { key = k; start = a; length = n }
 unfoldable pub keyed : {A : Type 0} → Natural → (ℕ → ℕ → Option A) → Option A
 keyed Other next = none
 keyed Cut next = none
-keyed (Is k l) next = pick (leb k maxKey) (next k l) none
+keyed (Is k l) next = check none (leb k maxKey) (next k l)
 
-unfoldable pub valued : {A : Type 0} → Read → (ℕ → Option A) → Option A
-valued (Whole m) next = next m
-valued (Broken p) next = none
+-- the entry at `at`, its value of depth at most d: none where its key is no key
+unfoldable pub entryAt : ℕ → Bytes → ℕ → Option Entry
+entryAt d s at = keyed (unsigned (drop at s)) (λ k l. whole none (value d (drop (at + l) s)) (λ m. some (entry k (at + l) m)))
 
-unfoldable pub after : Entry → Option (List Entry) → Option (List Entry)
-after e none = none
-after e (some es) = some (e ∷ es)
-
--- n entries of s from `at` on, their values of depth at most d: none where a key is no key
+-- n entries from `at` on
 unfoldable pub entries : ℕ → Bytes → ℕ → ℕ → Option (List Entry)
 entries d s zero at = some []
 entries d s (suc n) at =
-    keyed (unsigned (drop at s)) (λ k l.
-    valued (value d (drop (at + l) s)) (λ m.
-    after (entry k (at + l) m) (entries d s n (at + l + m))))
+    given none (entryAt d s at) (λ e.
+    given none (entries d s n (e .start + e .length)) (λ es.
+    some (e ∷ es)))
 
 unfoldable pub entriesBy : ℕ → Bytes → ℕ → Header → Option (List Entry)
 entriesBy d s at (Opens n l) = entries d s n (at + l)
