@@ -1,12 +1,15 @@
 // A map of a frame into a table: one pass, after which each key is a look-up.
+use frames::Place;
 use scalars::Header;
 use scalars::Natural;
 use scalars::Opening;
 use values::Read;
 ghost use mathlib.Core.Path.{_≡_};
+ghost use lib.ListN.{getD};
+ghost use Rattle.frames.specs.Keys.{nowhere};
 ghost use Rattle.frames.specs.Limits.{heldDepth};
 ghost use Rattle.frames.specs.Maps.{entryAt, entries, entriesAt};
-ghost use Rattle.frame_tables.specs.Tables.{emptyTable, stepOf, tabled};
+ghost use Rattle.frame_tables.specs.Tables.{emptyTable, stepOf, tabled, placeIn};
 
 // Where the value of each key starts, and its length: 0 where the key is absent. The number is 6
 // where the value is no map or a key no number below 128, 7 where a key stands twice, else 0.
@@ -85,4 +88,39 @@ pub fn table_at(s: &[u8], at: usize) -> Table
         return empty_table(6);
     };
     table_of(s, count, from)
+}
+
+fn absent() -> Place
+    ensures { λ r. ⌜ r ≡ nowhere ⌝ }
+{
+    Place {
+        present: false,
+        start: 0,
+        length: 0,
+    }
+}
+
+// 0 past the end, so that every key has an answer.
+fn number_under(list: &[usize], key: usize) -> usize
+    ensures { λ r. ⌜ r ≡ getD (now (list .entry)) key 0 ⌝ }
+{
+    if list.len() <= key {
+        return 0;
+    }
+    list[key]
+}
+
+// Where a table says that a key's value stands.
+pub fn place_in(starts: &[usize], lengths: &[usize], key: usize) -> Place
+    ensures { λ r. ⌜ r ≡ placeIn (now (starts .entry)) (now (lengths .entry)) key ⌝ }
+{
+    let length = number_under(lengths, key);
+    if length == 0 {
+        return absent();
+    }
+    Place {
+        present: true,
+        start: number_under(starts, key),
+        length,
+    }
 }
