@@ -1,2 +1,2 @@
--- Laws of numbers, headers and meanings. Assumes nothing.
+-- Laws of numbers and headers. Assumes nothing.
 pub mod Laws

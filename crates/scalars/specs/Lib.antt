@@ -1,6 +1,5 @@
--- What a value means: unsigned numbers and integers, headers with their counts, scalars; a value read alone.
+-- Unsigned numbers, integers, and headers with their counts.
 pub mod Start
 pub mod Integer
 pub mod Header
-pub mod Meaning
 pub mod Examples

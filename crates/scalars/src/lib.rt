@@ -1,15 +1,13 @@
-// What a value means: unsigned numbers, integers, headers, and a value read alone.
+// Unsigned numbers, integers, and the headers of strings, arrays and maps.
 use first_bytes::Form;
 use first_bytes::Kind;
 use values::Number;
-use values::Read;
 ghost use mathlib.Core.Path.{_≡_};
 ghost use Prim.Native.Nat.{_+_, _-_, _*_, _^_, _<_, _≤_};
 ghost use lib.ListN.{length, take, drop, getD};
 ghost use Rattle.scalars.specs.Start.{scalarOf, arrayBy, mapBy, startBy, Few};
 ghost use Rattle.scalars.specs.Integer.{due, naturalOf, signedOf, unsigned, signed, integer, shiftNatural, shiftInteger};
 ghost use Rattle.scalars.specs.Header.{counted, header, shiftHeader};
-ghost use Rattle.scalars.specs.Meaning.{alone};
 
 // An unsigned number and the place after it; cut short; or the first byte starts none.
 pub enum Natural {
@@ -55,29 +53,6 @@ pub enum Opening {
 pub enum Header {
     Is(usize, usize),
     Other,
-}
-
-// What a value means. A float stands beside its bits, which say which NaN it is. A string, bin or
-// ext by the start and length of its content, a container by those of its whole encoding.
-pub enum Meaning {
-    Absent,
-    Nil,
-    Boolean(bool),
-    Integer(Int),
-    Float32(f32, u32),
-    Float64(f64, u64),
-    String(usize, usize),
-    Bin(usize, usize),
-    Ext(u8, usize, usize),
-    Array(usize, usize),
-    Map(usize, usize),
-}
-
-// The answer for a value read alone: 0 with its length and meaning, or 4.
-pub struct Alone {
-    pub number: u32,
-    pub length: usize,
-    pub meaning: Meaning,
 }
 
 // The start of a scalar of one kind.

@@ -30,14 +30,18 @@ negativeForm m =
     (pick (ltb m (2 ^ 31)) (tagged 0xd2 4 (2 ^ 32 - 1 - m))
     (pick (ltb m (2 ^ 63)) (tagged 0xd3 8 (2 ^ 64 - 1 - m)) []))))
 
--- what stands before a string of n bytes, and before the values of an array or a map of n
+-- what stands before a string of n bytes
 unfoldable pub stringHeader : ℕ → Bytes
 stringHeader n =
     pick (ltb n 32) ((0xa0 + n) ∷ [])
     (pick (ltb n (2 ^ 8)) (tagged 0xd9 1 n) (pick (ltb n (2 ^ 16)) (tagged 0xda 2 n) (tagged 0xdb 4 n)))
 
+-- a count of an array or a map: the first bytes of its short forms begin at `short`, those of its longer ones at `long`
+abbrev pub countHeader : ℕ → ℕ → ℕ → Bytes
+countHeader short long n = pick (ltb n 16) ((short + n) ∷ []) (pick (ltb n (2 ^ 16)) (tagged long 2 n) (tagged (long + 1) 4 n))
+
 unfoldable pub arrayHeader : ℕ → Bytes
-arrayHeader n = pick (ltb n 16) ((0x90 + n) ∷ []) (pick (ltb n (2 ^ 16)) (tagged 0xdc 2 n) (tagged 0xdd 4 n))
+arrayHeader = countHeader 0x90 0xdc
 
 unfoldable pub mapHeader : ℕ → Bytes
-mapHeader n = pick (ltb n 16) ((0x80 + n) ∷ []) (pick (ltb n (2 ^ 16)) (tagged 0xde 2 n) (tagged 0xdf 4 n))
+mapHeader = countHeader 0x80 0xde

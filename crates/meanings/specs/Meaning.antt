@@ -4,8 +4,8 @@ use mathlib.Core.Bool.{Bool}
 use lib.Dec.{eqb}
 use lib.Ieee.{binary32, binary64, ofBits}
 use lib.ListN.{getD}
-use Rattle.first_bytes.specs.Bytes.{Bytes}
-use Rattle.first_bytes.specs.FirstByte.{formOf}
+use Rattle.first_bytes.specs.Bytes.{Bytes, pick}
+use Rattle.first_bytes.specs.FirstByte.{formOf, sameKind}
 use Rattle.first_bytes.specs.declared.Kind.{Kind}
 use Rattle.first_bytes.specs.declared.Kind.the-variants.{Nil, Boolean, Unsigned, Signed, Float32, Float64, String, Bin, Ext}
 use Rattle.first_bytes.specs.declared.Form.{Form}
@@ -16,11 +16,11 @@ use Rattle.values.specs.declared.Number.{Number}
 use Rattle.values.specs.declared.Number.the-variants.{Is, Missing}
 use Rattle.values.specs.declared.Read.{Read}
 use Rattle.values.specs.declared.Read.the-variants.{Whole, Broken}
 use Rattle.scalars.specs.Integer.{integer}
 use Rattle.scalars.specs.declared.Integer.{Integer}
 use Rattle.scalars.specs.declared.Integer.the-variants.{Is as IsInt, Cut as CutInt, Other as OtherInt}
-use Rattle.scalars.specs.declared.Meaning.{Meaning}
-use Rattle.scalars.specs.declared.Meaning.the-variants.{
+use Rattle.meanings.specs.declared.Meaning.{Meaning}
+use Rattle.meanings.specs.declared.Meaning.the-variants.{
   Absent,
   Nil as MeansNil,
   Boolean as MeansBoolean,
@@ -33,7 +33,7 @@ use Rattle.scalars.specs.declared.Meaning.the-variants.{
   Array as MeansArray,
   Map as MeansMap,
 }
-use Rattle.scalars.specs.declared.Alone.{Alone}
+use Rattle.meanings.specs.declared.Alone.{Alone}
 
 unfoldable pub ofInteger : Integer → Meaning
 ofInteger (IsInt z e) = MeansInteger z
@@ -48,6 +48,10 @@ ofFloat32 Missing = Absent
 unfoldable pub ofFloat64 : Number → Meaning
 ofFloat64 (Is n) = MeansFloat64 (ofBits binary64 n) n
 ofFloat64 Missing = Absent
+
+-- an ext's type
+unfoldable pub typeBytes : Kind → ℕ
+typeBytes k = pick (sameKind k Ext) 1 0
 
 -- a scalar of n bytes in all, w of them length bytes: its meaning, or the place of its content; an ext's type stands before its content
 unfoldable pub scalarMeaning : Kind → ℕ → Bytes → ℕ → Meaning

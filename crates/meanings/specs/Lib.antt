@@ -1,0 +1,3 @@
+-- What a value means; a value read alone.
+pub mod Meaning
+pub mod Examples

@@ -1,0 +1,5 @@
+-- The laws of writing, each once. Assumes nothing.
+pub mod Choice
+pub mod Turns
+pub mod Put
+pub mod Lengths

@@ -1,0 +1,20 @@
+-- `array_header_length`: a form is as long as its head says. Assumes nothing.
+use Rattle.writing.specs.Forms.{arrayHeader}
+use native.Mathlib.Omega.{arith}
+use Rattle.writing.proofs.Lengths.{head-length, array-long}
+use Rattle.writing.proofs.array_header_length.Statement.{statement}
+use Rattle.writing.proofs.array_header_length.Tie as tie
+
+count-head-requires : tie.Need-count-head-requires
+count-head-requires c κs = omega arith
+
+add-result : tie.Need-add-result
+unfolding arrayHeader
+add-result c = omega (arith, head-length _ _ _ (c .before .count-head .ensures), array-long (c .before .before .args .n) .1)
+
+returns : tie.Need-returns
+unfolding arrayHeader
+returns c = head-length _ _ _ (c .before .count-head .ensures)
+
+pub array-header-length-spec : {M : Type 1} → statement M
+array-header-length-spec = tie.close (tie.spec count-head-requires add-result returns)

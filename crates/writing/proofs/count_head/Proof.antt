@@ -1,0 +1,28 @@
+-- `count_head`: each return is the case of the definition that the tests on the way choose. Assumes nothing.
+use native.Mathlib.Omega.{arith}
+use borrow.Author.Tests.{lt-ltb, le-ltb}
+use Rattle.writing.specs.Forms.{bigEndian}
+use Rattle.writing.proofs.count_head.Statement.{statement}
+use Rattle.writing.proofs.count_head.Tie as tie
+
+cast-t5 : tie.Need-cast-t5
+cast-t5 c = omega arith
+
+add-t6 : tie.Need-add-t6
+add-t6 c = omega arith
+
+returns : tie.Need-returns
+unfolding bigEndian
+returns c = simp (lt-ltb _ _ (c .if1 .taken))
+
+returns-2 : tie.Need-returns-2
+returns-2 c = simp (le-ltb _ _ (c .before .if1 .left), lt-ltb _ _ (c .if2 .taken))
+
+add-t9 : tie.Need-add-t9
+add-t9 c = omega arith
+
+returns-3 : tie.Need-returns-3
+returns-3 c = simp (le-ltb _ _ (c .before .if1 .left), le-ltb _ _ (c .if2 .left))
+
+pub count-head-spec : {M : Type 1} → statement M
+count-head-spec = tie.close (tie.spec cast-t5 add-t6 returns returns-2 add-t9 returns-3)

@@ -1,0 +1,47 @@
+#!/usr/bin/env python3
+"""Lines of damaged and border values for the program `vectors`: bytes (hex), what they are, whose they are."""
+
+
+def out(b, what):
+    print("%s\t%s\t%s" % (bytes(b).hex(), what, "ours"))
+
+
+LONG = [
+    (b"\xd9\x05hello", "str 8"),
+    (b"\xda\x00\x05hello", "str 16"),
+    (b"\xdb\x00\x00\x00\x05hello", "str 32"),
+    (b"\xc4\x03abc", "bin 8"),
+    (b"\xc8\x00\x02\x07ab", "ext 16"),
+    (b"\xd8\x01" + bytes(range(16)), "fixext 16"),
+    (b"\xcb\x7f\xf8\x00\x00\x00\x00\x00\x01", "float 64 NaN"),
+    (b"\xcf\x01\x02\x03\x04\x05\x06\x07\x08", "uint 64"),
+    (b"\x93\x01\xa2ab\x91\xc3", "array in an array"),
+    (b"\x82\x01\x92\x02\x03\xa1k\x80", "map"),
+    (b"\xde\x00\x01\x01\x02", "map 16"),
+    (b"\xdf\x00\x00\x00\x01\x01\x02", "map 32"),
+]
+for b in range(256):
+    out([b] + [0] * 20, "first byte %02x and zeros" % b)
+    out([b], "first byte %02x alone" % b)
+for whole, name in LONG:
+    for n in range(len(whole)):
+        out(whole[:n], "%s cut to %d" % (name, n))
+    out(whole + b"\xc1", "%s, c1 after it" % name)
+for whole, name in LONG[8:]:
+    for n in range(1, len(whole)):
+        out(whole[:n] + b"\xc1" + whole[n + 1 :], "%s, c1 at %d" % (name, n))
+for d in (15, 16, 17, 18):
+    out([0x91] * (d - 1) + [0x90], "arrays %d deep" % d)
+    out([0x81, 0x00] * (d - 1) + [0x80], "maps %d deep" % d)
+    out([0x91] * (d - 1) + [0xDC], "arrays %d deep, the last cut" % d)
+    out([0x91] * (d - 1) + [0xC1], "arrays %d deep, then c1" % (d - 1))
+out([0xDD, 0xFF, 0xFF, 0xFF, 0xFF], "array of 2^32 - 1, nothing after it")
+out([0xDD, 0xFF, 0xFF, 0xFF, 0xFF] + [0x01] * 9, "array of 2^32 - 1, nine values")
+out([0xDF, 0xFF, 0xFF, 0xFF, 0xFF] + [0x01] * 9, "map of 2^32 - 1, nine values")
+out([0xDB, 0xFF, 0xFF, 0xFF, 0xFF] + [0x61] * 9, "str 32 of 2^32 - 1, nine bytes")
+out([0xC9, 0xFF, 0xFF, 0xFF, 0xFF, 0x01], "ext 32 of 2^32 - 1, its type")
+out([0xDD, 0xFF, 0xFF, 0xFF, 0xFF] * 17, "arrays of 2^32 - 1, 17 deep")
+out([0xDD, 0x00, 0x00, 0x00, 0x01, 0x07], "array 32 of one value")
+out([0xDC, 0x00, 0x0F] + [0x01] * 15, "array 16 of fifteen values")
+out([0x92, 0x90], "an empty array, then the end")
+out([], "no bytes")
