@@ -15,7 +15,14 @@ use Rattle.values.specs.Value.{shift, value}
 use Rattle.values.specs.declared.Read.{Read}
 use Rattle.values.specs.declared.Read.the-variants.{Whole, Broken}
 use Rattle.values.proofs.Local.{shift-whole, value-good, value-pos}
-use Rattle.scalars.specs.Integer.{unsigned, shiftNatural}
+use Rattle.first_bytes.specs.FirstByte.{formOf}
+use Rattle.first_bytes.specs.declared.Kind.the-variants.{Unsigned}
+use Rattle.scalars.specs.Start.{scalarOf}
+use Rattle.scalars.specs.Integer.{dueIn, due, unsignedBy, unsigned, shiftNatural}
+use Rattle.scalars.specs.declared.Start.{Start}
+use Rattle.scalars.specs.declared.Start.the-variants.{Here, Elsewhere}
+use Rattle.scalars.specs.declared.Due.{Due}
+use Rattle.scalars.specs.declared.Due.the-variants.{More, Cut as CutDue, Other as OtherDue}
 use Rattle.scalars.specs.declared.Natural.{Natural}
 use Rattle.scalars.specs.declared.Natural.the-variants.{Is, Cut, Other}
 use Rattle.frames.specs.declared.FrameAnswer.{FrameAnswer}
@@ -52,6 +59,9 @@ body-missing s at e = go (ltb at (length s)) refl e
     go : (b : Bool) → ltb at (length s) ≡ b → Missing ≡ pick b (At at) Missing → length s ≤ at
     go true q e = impossible cc
     go false q e = ltb-false at (length s) q
+
+pub moved : (r : Read) (s : Bytes) (from at : ℕ) → from ≡ at → r ≡ shift from (value maxDepth (drop from s)) → r ≡ shift at (value maxDepth (drop at s))
+moved r s from at e h = rw e at h
 
 -- ---- header and body
 
@@ -174,6 +184,20 @@ module _ (s : Bytes) where
             go true q = leb-true 1 n q
             go false q = absurd (z (let l = leb-false 1 n q in omega arith))
 
+-- a number that was read is within the bytes
+number-inside : (s : Bytes) (n k : ℕ) → unsigned s ≡ Is n k → k ≤ length s
+unfolding unsigned unsignedBy due dueIn
+number-inside [] n k e = impossible cc
+number-inside (b ∷ t) n k e = by-start (scalarOf Unsigned (formOf b)) e
+  where
+    by-length : (f : ℕ) (c : Bool) → leb f (length t) ≡ c → unsignedBy (pick c (More f) CutDue) (b ∷ t) ≡ Is n k → k ≤ suc (length t)
+    by-length f true q e = let z : 1 + f ≡ k = cc in let l = leb-true f (length t) q in omega arith
+    by-length f false q e = impossible cc
+
+    by-start : (x : Start) → unsignedBy (dueIn x t) (b ∷ t) ≡ Is n k → k ≤ suc (length t)
+    by-start (Here w f) e = by-length f (leb f (length t)) refl e
+    by-start Elsewhere e = impossible cc
+
 -- ---- the frame
 
 module _ (s : Bytes) where
@@ -187,8 +211,9 @@ module _ (s : Bytes) where
     size-fits = go (unsigned s) refl e
       where
         pick-fits : (b : Bool) (m l : ℕ) → unsigned s ≡ Is m l → Promises n k ≡ pick b (Promises m l) (Refused 3) → k ≤ length s
-        pick-fits true m l u q = let z : k ≡ l = cc in ?
+        pick-fits true m l u q = let z : k ≡ l = cc in rw z (number-inside s m l u)
         pick-fits false m l u q = impossible cc
+
         go : (u : Natural) → unsigned s ≡ u → Promises n k ≡ sizeBy u → k ≤ length s
         go (Is m l) u q = pick-fits (leb 1 m && leb m maxSize) m l u q
         go Cut u q = impossible cc

@@ -52,6 +52,9 @@ pub needs-some : (n : Needs) (o : Option (List ℕ)) → needed n ≡ o → n .k
 unfolding needed
 needs-some n o e h = sym e ∙ rw h
 
+pub both-are : {a b x y v : Bool} → a ≡ x → b ≡ y → (a && b) ≡ v → (x && y) ≡ v
+both-are e q h = ap₂ _&&_ (sym e) (sym q) ∙ h
+
 -- ---- 8 to 10
 
 module _ (s : Bytes) (f g : ℕ → Place) where

@@ -8,7 +8,7 @@ use Prim.Native.Nat.{ℕ, _<_, _≤_}
 use native.Mathlib.Omega.{arith}
 use borrow.Author.Tests.{le-leb, lt-leb, ne-eqb}
 use lib.Dec.{leb}
-use lib.ListN.{take}
+use lib.ListN.{length, take}
 use Rattle.first_bytes.specs.Bytes.{Bytes}
 use Rattle.scalars.specs.Integer.{unsigned, shiftNatural}
 use Rattle.scalars.specs.Header.{shiftHeader}
@@ -67,12 +67,12 @@ module _ (v : Bytes) (m : ℕ) where
 
 -- ---- 8 and 10
 
-pub known-code : {c k n : ℕ} {ks : List ℕ} {r : Needs} → c ≡ k → r ≡ knownNeeds n ks → some (take n ks) ≡ required k → n ≤ 6
-    → (needed r ≡ required c) × (r .count ≤ 6)
+pub known-code : {c k n : ℕ} {ks : List ℕ} {r : Needs} → c ≡ k → r ≡ knownNeeds n ks → some (take n ks) ≡ required k → n ≤ length ks
+    → (needed r ≡ required c) × (r .count ≤ length (r .keys))
 unfolding needed
 known-code e q h l = (ap needed q ∙ h ∙ ap required (sym e), rw q l)
 
-pub error-code : (c : ℕ) (r : Needs) → 0x8000 ≤ c → c < 0x9000 → r ≡ knownNeeds 1 (0x31 ∷ 0 ∷ 0 ∷ 0 ∷ 0 ∷ 0 ∷ []) → (needed r ≡ required c) × (r .count ≤ 6)
+pub error-code : (c : ℕ) (r : Needs) → 0x8000 ≤ c → c < 0x9000 → r ≡ knownNeeds 1 (0x31 ∷ 0 ∷ 0 ∷ 0 ∷ 0 ∷ 0 ∷ []) → (needed r ≡ required c) × (r .count ≤ length (r .keys))
 unfolding needed required isError
 error-code c r h k q = (rw (q, le-leb 0x8000 c h, le-leb c 0x8fff (omega arith)), rw q (omega arith))
 

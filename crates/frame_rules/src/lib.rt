@@ -5,6 +5,7 @@ use scalars::Natural;
 use scalars::Opening;
 ghost use mathlib.Core.Path.{_≡_};
 ghost use Prim.Native.Nat.{_≤_};
+ghost use lib.ListN.{length};
 ghost use Rattle.scalars.specs.Start.{startBy};
 ghost use Rattle.scalars.specs.Header.{header};
 ghost use Rattle.frames.specs.Held.{heldIn, suits, opened};
@@ -60,7 +61,7 @@ fn needing(count: usize, keys: [usize; 6]) -> Needs
 }
 
 pub fn needs_of(code: u64) -> Needs
-    ensures { λ r. ⌜ (needed r ≡ required code) × (r .count ≤ 6) ⌝ }
+    ensures { λ r. ⌜ (needed r ≡ required code) × (r .count ≤ length (r .keys)) ⌝ }
 {
     match code {
         0x00 => needing(0, [0, 0, 0, 0, 0, 0]),

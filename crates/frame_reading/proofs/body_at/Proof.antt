@@ -1,15 +1,16 @@
+-- Bytes are left, or none. Assumes nothing.
+use borrow.Author.Tests.{lt-ltb, le-ltb}
+use Rattle.frame_reading.specs.Steps.{bodyAt}
 use Rattle.frame_reading.proofs.body_at.Statement.{statement}
 use Rattle.frame_reading.proofs.body_at.Tie as tie
-use Rattle.frame_reading.proofs.body_at.Reads as reads
-use Rattle.frame_reading.proofs.body_at.Lts as lts
 
--- src/lib.rt:146:1
 returns : tie.Need-returns
-returns c = ?
+unfolding bodyAt
+returns c = rw (lt-ltb _ _ (c .if1 .taken))
 
--- src/lib.rt:146:1
 returns-2 : tie.Need-returns-2
-returns-2 c = ?
+unfolding bodyAt
+returns-2 c = rw (le-ltb _ _ (c .if1 .left))
 
 pub body-at-spec : {M : Type 1} → statement M
 body-at-spec = tie.close (tie.spec returns returns-2)

@@ -1,106 +1,131 @@
+-- Each way through header and body. Assumes nothing.
+use Prim.Native.Nat.{ℕ}
+use mathlib.Core.Path.{_≡_, sym, ap, ap₂, _∙_}
+use mathlib.Core.List.{[]}
+use mathlib.Core.Option.{some}
 use borrow.Author.Needs.{needs}
+use Rattle.values.specs.Value.{shift, value}
+use Rattle.frames.specs.Limits.{maxDepth, heldDepth}
+use Rattle.frames.specs.Maps.{entriesAt}
+use Rattle.frame_tables.specs.Tables.{laidAll, tabledOn, tabled}
+use Rattle.frame_reading.specs.Steps.{judged}
+use Rattle.frame_reading.proofs.Contents.{body-there, body-missing, moved, no-header, no-body, bad-body, bytes-remain, all-read}
 use Rattle.frame_reading.proofs.read_contents.Statement.{statement}
 use Rattle.frame_reading.proofs.read_contents.Tie as tie
-use Rattle.frame_reading.proofs.read_contents.Reads as reads
-use Rattle.frame_reading.proofs.read_contents.Lts as lts
-use Rattle.frame_reading.proofs.body_at.Reads as body-at-reads
-use Rattle.frame_reading.proofs.judge.Reads as judge-reads
-use Rattle.frame_reading.proofs.refused.Reads as refused-reads
-use Rattle.frame_tables.proofs.empty_table.Reads as empty-table-reads
-use Rattle.frame_tables.proofs.table_at.Reads as table-at-reads
-use Rattle.values.proofs.read_value.Reads as read-value-reads
 
--- src/lib.rt:160:28
 read-value-requires : tie.Need-read-value-requires
 read-value-requires c κs = search needs
 
--- src/lib.rt:160:21
 enum-known-end : tie.Need-enum-known-end
 enum-known-end c = search needs
 
--- src/lib.rt:161:9
 enum-told : tie.Need-enum-told
 enum-told c = search needs
 
--- src/lib.rt:161:9
 refused-requires : tie.Need-refused-requires
 refused-requires c κs = search needs
 
--- src/lib.rt:161:9
 returns : tie.Need-returns
-returns c = ?
+returns c =
+    let v = c .before .before .before in
+    let a = v .before .before .args in
+    c .refused .ensures ∙ no-header (a .s .now) (a .at) _ (sym (c .before .enum-told .given .1) ∙ v .read-value .ensures)
 
--- src/lib.rt:163:26
 body-at-requires : tie.Need-body-at-requires
 body-at-requires c κs = search needs
 
--- src/lib.rt:163:18
 enum-known-from : tie.Need-enum-known-from
 enum-known-from c = search needs
 
--- src/lib.rt:166:13
 enum-told-2 : tie.Need-enum-told-2
 enum-told-2 c = search needs
 
--- src/lib.rt:166:13
 table-at-requires : tie.Need-table-at-requires
 table-at-requires c κs = search needs
 
--- src/lib.rt:167:13
 empty-table-requires : tie.Need-empty-table-requires
 empty-table-requires c κs = search needs
 
--- src/lib.rt:164:9
 judge-requires : tie.Need-judge-requires
 judge-requires c κs = search needs
 
--- src/lib.rt:164:9
 returns-2 : tie.Need-returns-2
-returns-2 c = ?
+unfolding tabledOn laidAll
+returns-2 c =
+    let t = c .before .before in
+    let b = t .before .before .before in
+    let e = b .before .before in
+    let v = e .before .before in
+    let a = v .before .before .args in
+    c .judge .ensures
+    ∙ ap₂ (judged (a .s .now)) (t .table-at .ensures) (c .before .empty-table .ensures)
+    ∙ no-body (a .s .now) (a .at) _ (sym (e .end .given .1) ∙ v .read-value .ensures) (body-missing (a .s .now) _ (sym (t .before .enum-told2 .given .1) ∙ b .body-at .ensures))
 
--- src/lib.rt:170:29
 read-value-requires-2 : tie.Need-read-value-requires-2
 read-value-requires-2 c κs = search needs
 
--- src/lib.rt:170:21
 enum-known-last : tie.Need-enum-known-last
 enum-known-last c = search needs
 
--- src/lib.rt:171:9
 enum-told-3 : tie.Need-enum-told-3
 enum-told-3 c = search needs
 
--- src/lib.rt:171:9
 refused-requires-2 : tie.Need-refused-requires-2
 refused-requires-2 c κs = search needs
 
--- src/lib.rt:171:9
 returns-3 : tie.Need-returns-3
-returns-3 c = ?
+returns-3 c =
+    let w = c .before .before .before in
+    let f = w .before .before in
+    let b = f .before .before in
+    let e = b .before .before in
+    let v = e .before .before in
+    let a = v .before .before .args in
+    let d = body-there (a .s .now) _ _ (sym (f .from .given .1) ∙ b .body-at .ensures) in
+    c .refused2 .ensures
+    ∙ bad-body (a .s .now) (a .at) _ (sym (e .end .given .1) ∙ v .read-value .ensures) (d .0) _ (moved _ (a .s .now) _ _ (d .1) (sym (c .before .enum-told3 .given .1) ∙ w .read-value2 .ensures))
 
--- src/lib.rt:174:9
 refused-requires-3 : tie.Need-refused-requires-3
 refused-requires-3 c κs = search needs
 
--- src/lib.rt:174:9
 returns-4 : tie.Need-returns-4
-returns-4 c = ?
+returns-4 c =
+    let l = c .before .before .before in
+    let w = l .before .before in
+    let f = w .before .before in
+    let b = f .before .before in
+    let e = b .before .before in
+    let v = e .before .before in
+    let a = v .before .before .args in
+    let d = body-there (a .s .now) _ _ (sym (f .from .given .1) ∙ b .body-at .ensures) in
+    c .refused3 .ensures
+    ∙ bytes-remain (a .s .now) (a .at) _ (sym (e .end .given .1) ∙ v .read-value .ensures) (d .0) _ (moved _ (a .s .now) _ _ (d .1) (sym (l .last .given .1) ∙ w .read-value2 .ensures))
+    (c .before .if1 .taken)
 
--- src/lib.rt:178:9
 table-at-requires-2 : tie.Need-table-at-requires-2
 table-at-requires-2 c κs = search needs
 
--- src/lib.rt:179:9
 table-at-requires-3 : tie.Need-table-at-requires-3
 table-at-requires-3 c κs = search needs
 
--- src/lib.rt:176:5
 judge-requires-2 : tie.Need-judge-requires-2
 judge-requires-2 c κs = search needs
 
--- src/lib.rt:157:1
 returns-5 : tie.Need-returns-5
-returns-5 c = ?
+returns-5 c =
+    let i = c .before .before .before in
+    let l = i .before .before in
+    let w = l .before .before in
+    let f = w .before .before in
+    let b = f .before .before in
+    let e = b .before .before in
+    let v = e .before .before in
+    let a = v .before .before .args in
+    let d = body-there (a .s .now) _ _ (sym (f .from .given .1) ∙ b .body-at .ensures) in
+    c .judge2 .ensures
+    ∙ ap₂ (judged (a .s .now)) (c .before .before .table-at2 .ensures) (c .before .table-at3 .ensures ∙ ap (λ (x : ℕ). tabled (entriesAt heldDepth (a .s .now) x)) (d .1))
+    ∙ all-read (a .s .now) (a .at) _ (sym (e .end .given .1) ∙ v .read-value .ensures) (d .0) _ (moved _ (a .s .now) _ _ (d .1) (sym (l .last .given .1) ∙ w .read-value2 .ensures))
+    (i .if1 .left)
 
 pub read-contents-spec : {M : Type 1} → statement M
 read-contents-spec =
