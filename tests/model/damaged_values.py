@@ -1,5 +1,5 @@
 #!/usr/bin/env python3
-"""Lines of damaged and border values for the program `vectors`: bytes (hex), what they are, whose they are."""
+"""Lines of damaged and border values for the program `cases`: bytes (hex), what they are, whose they are."""
 
 
 def out(b, what):

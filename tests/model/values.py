@@ -1,8 +1,8 @@
 #!/usr/bin/env python3
 """A second reader of MessagePack values, written from the MessagePack specification and document 01.
 
-  values.py < crates/vectors/stdin     print what the program `vectors` must print
-  values.py check < crates/vectors/stdin
+  values.py < crates/cases/stdin     print what the program `cases` must print of values
+  values.py check < crates/cases/stdin
                                        compare what is accepted with the library python3-msgpack as well
 
 It shares nothing with the Rattle code but the form of the printed lines.
@@ -156,7 +156,7 @@ def check(text):
 
 
 def main():
-    texts = [l.split("\t")[0].strip() for l in sys.stdin.read().split("\n") if l]
+    texts = [l.split("\t")[1] for l in sys.stdin.read().split("\n") if l.startswith("v\t")]
     if sys.argv[1:] == ["check"]:
         print("%d of %d values agree with python3-msgpack" % (sum(check(t) for t in texts), len(texts)))
         return

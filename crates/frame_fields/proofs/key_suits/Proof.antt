@@ -1,0 +1,31 @@
+-- Absent, or there. Assumes nothing.
+use mathlib.Core.Path.{_∙_}
+use borrow.Author.Needs.{needs}
+use Rattle.frame_fields.proofs.Laws.{suits-there, suits-none}
+use Rattle.frame_fields.proofs.key_suits.Statement.{statement}
+use Rattle.frame_fields.proofs.key_suits.Tie as tie
+
+place-in-requires : tie.Need-place-in-requires
+place-in-requires c κs = search needs
+
+view-of-requires : tie.Need-view-of-requires
+view-of-requires c κs = search needs
+
+suits-rule-requires : tie.Need-suits-rule-requires
+suits-rule-requires c κs = search needs
+
+returns : tie.Need-returns
+returns c =
+    let p = c .before .before .before in
+    let a = p .before .before .before .before .args in
+    c .suits-rule .ensures ∙ suits-there (a .s .now) _ _ (p .place-in .ensures) (a .rule) _ (c .before .before .if1 .taken) (c .before .view-of .ensures)
+
+returns-2 : tie.Need-returns-2
+returns-2 c =
+    let p = c .before in
+    let a = p .before .before .before .before .args in
+    suits-none (a .s .now) _ _ (p .place-in .ensures) (a .rule) (c .if1 .left)
+
+pub key-suits-spec : {M : Type 1} → statement M
+key-suits-spec =
+    tie.close (tie.spec place-in-requires view-of-requires suits-rule-requires returns returns-2)

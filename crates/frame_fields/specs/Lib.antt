@@ -1,0 +1,1 @@
+-- Nothing of its own: the contracts cite the definitions of frames and tables.

@@ -1,0 +1,228 @@
+-- 1 to 5: the size number, the header and the body. Assumes nothing.
+use mathlib.Core.Path.{_≡_, refl, sym, subst, ap, ap₂, _∙_}
+use mathlib.Core.List.{List, [], _∷_}
+use mathlib.Core.Bool.{Bool, true, false, _&&_}
+use mathlib.Core.Option.{Option, none, some}
+use Prim.Native.Nat.{ℕ, suc, _+_, _-_, _<_, _≤_}
+use native.Mathlib.Nat.{zero-add}
+use native.Mathlib.Omega.{arith}
+use borrow.Author.Tests.{le-leb, lt-leb, lt-ltb, le-ltb, eq-eqb, ne-eqb, leb-true, leb-false, ltb-true, ltb-false}
+use lib.Dec.{leb, ltb, eqb}
+use lib.ListN.{length, take, drop, getD, length-drop, drop-of-length-le}
+use lib.Seq.{drop-cons}
+use Rattle.first_bytes.specs.Bytes.{Bytes, pick}
+use Rattle.values.specs.Value.{shift, value}
+use Rattle.values.specs.declared.Read.{Read}
+use Rattle.values.specs.declared.Read.the-variants.{Whole, Broken}
+use Rattle.values.proofs.Local.{shift-whole, value-good, value-pos}
+use Rattle.first_bytes.specs.FirstByte.{formOf}
+use Rattle.first_bytes.specs.declared.Kind.the-variants.{Unsigned}
+use Rattle.scalars.specs.Start.{scalarOf}
+use Rattle.scalars.specs.Integer.{dueIn, due, unsignedBy, unsigned, shiftNatural}
+use Rattle.scalars.specs.declared.Start.{Start}
+use Rattle.scalars.specs.declared.Start.the-variants.{Here, Elsewhere}
+use Rattle.scalars.specs.declared.Due.{Due}
+use Rattle.scalars.specs.declared.Due.the-variants.{More, Cut as CutDue, Other as OtherDue}
+use Rattle.scalars.specs.declared.Natural.{Natural}
+use Rattle.scalars.specs.declared.Natural.the-variants.{Is, Cut, Other}
+use Rattle.frames.specs.declared.FrameAnswer.{FrameAnswer}
+use Rattle.frames.specs.declared.Size.{Size}
+use Rattle.frames.specs.declared.Size.the-variants.{Promises, Refused}
+use Rattle.frames.specs.Limits.{maxSize, maxDepth, heldDepth}
+use Rattle.frames.specs.Maps.{Entry, entriesAt}
+use Rattle.frames.specs.Cascade.{check, whole}
+use Rattle.frames.specs.Reading.{refuse, byEntries, bodyValue, bodyEntries, inFrame, sizeBy, sizeOf, bySize, frameRead}
+use Rattle.frame_tables.proofs.Entries.{AllFit, nil, all-fit}
+use Rattle.frame_tables.specs.Tables.{tabled}
+use Rattle.frame_reading.specs.Steps.{judged, bodyAt}
+use Rattle.frame_reading.specs.declared.Body.{Body}
+use Rattle.frame_reading.specs.declared.Body.the-variants.{At, Missing}
+use Rattle.frame_reading.proofs.Places.{Holds, judged-entries}
+
+impossible : {A : Type 0} → _≡_ {A = ℕ} 0 1 → A
+impossible z = absurd (omega arith)
+
+-- ---- the body's place
+
+pub body-there : (s : Bytes) (at from : ℕ) → At from ≡ bodyAt s at → (at < length s) × (from ≡ at)
+unfolding bodyAt
+body-there s at from e = go (ltb at (length s)) refl e
+  where
+    go : (b : Bool) → ltb at (length s) ≡ b → At from ≡ pick b (At at) Missing → (at < length s) × (from ≡ at)
+    go true q e = (ltb-true at (length s) q, cc)
+    go false q e = impossible cc
+
+pub body-missing : (s : Bytes) (at : ℕ) → Missing ≡ bodyAt s at → length s ≤ at
+unfolding bodyAt
+body-missing s at e = go (ltb at (length s)) refl e
+  where
+    go : (b : Bool) → ltb at (length s) ≡ b → Missing ≡ pick b (At at) Missing → length s ≤ at
+    go true q e = impossible cc
+    go false q e = ltb-false at (length s) q
+
+pub moved : (r : Read) (s : Bytes) (from at : ℕ) → from ≡ at → r ≡ shift from (value maxDepth (drop from s)) → r ≡ shift at (value maxDepth (drop at s))
+moved r s from at e h = rw e at h
+
+-- ---- header and body
+
+-- a whole value from `at` to `end`
+record Span (s : Bytes) (at end : ℕ) : Type 0 where
+  size : ℕ
+  is : value maxDepth (drop at s) ≡ Whole size
+  to : end ≡ at + size
+  inside : end ≤ length s
+
+span : (s : Bytes) (at end : ℕ) → Whole end ≡ shift at (value maxDepth (drop at s)) → Span s at end
+span s at end h =
+    let (n, q, e) = shift-whole at end (value maxDepth (drop at s)) (sym h) in
+    let l = simp length-drop at (value-good maxDepth (drop at s) n q .0) in
+    let p = value-pos maxDepth (drop at s) n q in
+    record { size = n; is = q; to = e; inside = omega arith }
+
+broken : (s : Bytes) (at p : ℕ) → Broken p ≡ shift at (value maxDepth (drop at s)) → (q : ℕ) × (value maxDepth (drop at s) ≡ Broken q)
+broken s at p h = go (value maxDepth (drop at s)) refl h
+  where
+    go : (r : Read) → value maxDepth (drop at s) ≡ r → Broken p ≡ shift at r → (q : ℕ) × (value maxDepth (drop at s) ≡ Broken q)
+    go (Whole n) e h = impossible cc
+    go (Broken q) e h = (q, e)
+
+holds : (s : Bytes) (at : ℕ) → Holds s (entriesAt heldDepth s at)
+holds s at = go (entriesAt heldDepth s at) refl
+  where
+    go : (o : Option (List Entry)) → entriesAt heldDepth s at ≡ o → Holds s o
+    go none e = tt
+    go (some es) e = all-fit heldDepth s at es e
+
+module _ (s : Bytes) (at : ℕ) where
+  pub no-header : (p : ℕ) → Broken p ≡ shift at (value maxDepth (drop at s)) → refuse 4 ≡ inFrame s at
+  unfolding inFrame whole
+  no-header p h = rw (broken s at p h .1)
+
+  module _ (end : ℕ) (h : Whole end ≡ shift at (value maxDepth (drop at s))) where
+    -- what comes after the header
+    after : FrameAnswer
+    after =
+        whole (refuse 4) (bodyValue (drop end s)) (λ b. check (refuse 5) (eqb (end + b) (length s))
+        (byEntries s (entriesAt heldDepth s at) (bodyEntries s end (drop end s))))
+
+    header-whole : inFrame s at ≡ after
+    unfolding inFrame whole after
+    header-whole = let x = span s at end h in rw (x .is, ← (x .to))
+
+    pub no-body : length s ≤ end → judged s (tabled (entriesAt heldDepth s at)) (tabled (some [])) ≡ inFrame s at
+    unfolding after whole check bodyValue bodyEntries
+    no-body l =
+        let x = span s at end h in
+        let i = x .inside in
+        let e : end + 0 ≡ length s = omega arith in
+        judged-entries s (entriesAt heldDepth s at) (some []) (holds s at) nil
+        ∙ sym (header-whole ∙ rw (drop-of-length-le s l, eq-eqb (end + 0) (length s) e))
+
+    module _ (l : end < length s) where
+      body-is : (bodyValue (drop end s) ≡ value maxDepth (drop end s)) × (bodyEntries s end (drop end s) ≡ entriesAt heldDepth s end)
+      unfolding bodyValue bodyEntries
+      body-is = rw (drop-cons s end 0 l) (refl, refl)
+
+      pub bad-body : (p : ℕ) → Broken p ≡ shift end (value maxDepth (drop end s)) → refuse 4 ≡ inFrame s at
+      unfolding after whole
+      bad-body p q = sym (header-whole ∙ rw (body-is .0, broken s end p q .1))
+
+      body-whole : (last : ℕ) → (q : Whole last ≡ shift end (value maxDepth (drop end s)))
+          → inFrame s at ≡ check (refuse 5) (eqb last (length s)) (byEntries s (entriesAt heldDepth s at) (entriesAt heldDepth s end))
+      unfolding after whole
+      body-whole last q = let x = span s end last q in header-whole ∙ rw (body-is .0, x .is, ← (x .to), body-is .1)
+
+      pub bytes-remain : (last : ℕ) → Whole last ≡ shift end (value maxDepth (drop end s)) → last < length s → refuse 5 ≡ inFrame s at
+      unfolding check
+      bytes-remain last q k = sym (body-whole last q ∙ rw (ne-eqb last (length s) (λ e. omega arith)))
+
+      pub all-read : (last : ℕ) → Whole last ≡ shift end (value maxDepth (drop end s)) → length s ≤ last
+          → judged s (tabled (entriesAt heldDepth s at)) (tabled (entriesAt heldDepth s end)) ≡ inFrame s at
+      unfolding check
+      all-read last q k =
+          let i = span s end last q .inside in
+          judged-entries s (entriesAt heldDepth s at) (entriesAt heldDepth s end) (holds s at) (holds s end)
+          ∙ sym (body-whole last q ∙ rw (eq-eqb last (length s) (omega arith)))
+
+-- ---- the size number
+
+module _ (s : Bytes) where
+  sized-by : (u : Natural) → u ≡ shiftNatural 0 (unsigned s) → sizeOf s ≡ sizeBy u
+  unfolding sizeOf
+  sized-by u e = ap sizeBy (sym (e ∙ same (unsigned s)))
+    where
+      same : (v : Natural) → shiftNatural 0 v ≡ v
+      same (Is n k) = rw zero-add
+      same Cut = refl
+      same Other = refl
+
+  pub size-other : Other ≡ shiftNatural 0 (unsigned s) → Refused 2 ≡ sizeOf s
+  unfolding sizeBy
+  size-other e = sym (sized-by Other e)
+
+  pub size-cut : Cut ≡ shiftNatural 0 (unsigned s) → Refused 1 ≡ sizeOf s
+  unfolding sizeBy
+  size-cut e = sym (sized-by Cut e)
+
+  module _ (n k : ℕ) (e : Is n k ≡ shiftNatural 0 (unsigned s)) where
+    pub size-none : n ≡ 0 → Refused 3 ≡ sizeOf s
+    unfolding sizeBy
+    size-none h = sym (sized-by (Is n k) e ∙ rw h)
+
+    pub size-large : maxSize < n → Refused 3 ≡ sizeOf s
+    unfolding sizeBy
+    size-large h = sym (sized-by (Is n k) e ∙ rw (le-leb 1 n (omega arith), lt-leb n maxSize h))
+
+    pub size-is : (n ≡ 0 → ⊥) → n ≤ maxSize → Promises n k ≡ sizeOf s
+    unfolding sizeBy
+    size-is z h = sym (sized-by (Is n k) e ∙ rw (le-leb 1 n (positive n z), le-leb n maxSize h))
+      where
+        positive : (n : ℕ) → (n ≡ 0 → ⊥) → 1 ≤ n
+        positive n z = go (leb 1 n) refl
+          where
+            go : (b : Bool) → leb 1 n ≡ b → 1 ≤ n
+            go true q = leb-true 1 n q
+            go false q = absurd (z (let l = leb-false 1 n q in omega arith))
+
+-- a number that was read is within the bytes
+number-inside : (s : Bytes) (n k : ℕ) → unsigned s ≡ Is n k → k ≤ length s
+unfolding unsigned unsignedBy due dueIn
+number-inside [] n k e = impossible cc
+number-inside (b ∷ t) n k e = by-start (scalarOf Unsigned (formOf b)) e
+  where
+    by-length : (f : ℕ) (c : Bool) → leb f (length t) ≡ c → unsignedBy (pick c (More f) CutDue) (b ∷ t) ≡ Is n k → k ≤ suc (length t)
+    by-length f true q e = let z : 1 + f ≡ k = cc in let l = leb-true f (length t) q in omega arith
+    by-length f false q e = impossible cc
+
+    by-start : (x : Start) → unsignedBy (dueIn x t) (b ∷ t) ≡ Is n k → k ≤ suc (length t)
+    by-start (Here w f) e = by-length f (leb f (length t)) refl e
+    by-start Elsewhere e = impossible cc
+
+-- ---- the frame
+
+module _ (s : Bytes) where
+  pub frame-refused : (n : ℕ) → Refused n ≡ sizeOf s → refuse n ≡ frameRead s
+  unfolding frameRead bySize
+  frame-refused n e = rw (← e)
+
+  module _ (n k : ℕ) (e : Promises n k ≡ sizeOf s) where
+    pub size-fits : k ≤ length s
+    unfolding sizeOf sizeBy
+    size-fits = go (unsigned s) refl e
+      where
+        pick-fits : (b : Bool) (m l : ℕ) → unsigned s ≡ Is m l → Promises n k ≡ pick b (Promises m l) (Refused 3) → k ≤ length s
+        pick-fits true m l u q = let z : k ≡ l = cc in rw z (number-inside s m l u)
+        pick-fits false m l u q = impossible cc
+
+        go : (u : Natural) → unsigned s ≡ u → Promises n k ≡ sizeBy u → k ≤ length s
+        go (Is m l) u q = pick-fits (leb 1 m && leb m maxSize) m l u q
+        go Cut u q = impossible cc
+        go Other u q = impossible cc
+
+    pub not-all-come : length s - k < n → refuse 1 ≡ frameRead s
+    unfolding frameRead bySize check
+    not-all-come h = let l = size-fits in rw (← e, lt-leb (k + n) (length s) (omega arith))
+
+    pub all-come : n ≤ length s - k → inFrame (take (k + n) s) k ≡ frameRead s
+    unfolding frameRead bySize check
+    all-come h = let l = size-fits in rw (← e, le-leb (k + n) (length s) (omega arith))

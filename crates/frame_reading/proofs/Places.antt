@@ -1,0 +1,124 @@
+-- 6 to 10: what the tables and look-ups say of the cascade. Assumes nothing.
+use mathlib.Core.Path.{_≡_, refl, sym, subst, ap, ap₂, _∙_}
+use mathlib.Core.List.{List, [], _∷_}
+use mathlib.Core.Bool.{Bool, true, false, _&&_, _||_}
+use mathlib.Core.Option.{Option, none, some}
+use Prim.Native.Nat.{ℕ, suc, _+_, _-_, _<_, _≤_}
+use native.Mathlib.Omega.{arith}
+use lib.Dec.{eqb}
+use lib.ListN.{length, take}
+use Rattle.first_bytes.specs.Bytes.{Bytes, pick}
+use Rattle.frames.specs.declared.OptionalNumber.{OptionalNumber}
+use Rattle.frames.specs.declared.Place.{Place}
+use Rattle.frames.specs.declared.Frame.{Frame}
+use Rattle.frames.specs.declared.FrameAnswer.{FrameAnswer}
+use Rattle.frames.specs.Held.{all}
+use Rattle.frames.specs.Keys.{optional, codeIn, frameAt, headerKeys, bodyKeys}
+use Rattle.frames.specs.Codes.{required}
+use Rattle.frames.specs.Maps.{Entry, keys, distinct, find}
+use Rattle.frames.specs.Cascade.{check, given}
+use Rattle.frames.specs.Reading.{refuse, accept, suited, byPlaces, byEntries}
+use Rattle.frame_tables.specs.declared.Table.{Table}
+use Rattle.frame_tables.specs.Tables.{emptyTable, laidAll, tabledOn, tabled, placeIn}
+use Rattle.frame_tables.proofs.Entries.{AllFit}
+use Rattle.frame_tables.proofs.Found.{places-found, number-found}
+use Rattle.frame_rules.specs.declared.Needs.{Needs}
+use Rattle.frame_rules.specs.Needs.{needed}
+use Rattle.frame_reading.specs.Steps.{judged}
+
+impossible : {A : Type 0} → _≡_ {A = ℕ} 0 1 → A
+impossible z = absurd (omega arith)
+
+differ : {A : Type 0} → true ≡ false → A
+differ e = impossible cc
+
+-- ---- what the answers below are
+
+pub code-absent : (o : Option ℕ) (n : OptionalNumber) → n ≡ optional o → n .present ≡ false → o ≡ none
+unfolding optional
+code-absent none n e h = refl
+code-absent (some c) n e h = differ (sym (ap (λ (x : OptionalNumber). x .present) e) ∙ h)
+
+pub code-there : (o : Option ℕ) (n : OptionalNumber) → n ≡ optional o → n .present ≡ true → o ≡ some (n .value)
+unfolding optional
+code-there none n e h = differ (sym h ∙ ap (λ (x : OptionalNumber). x .present) e)
+code-there (some c) n e h = rw e
+
+pub needs-none : (n : Needs) (o : Option (List ℕ)) → needed n ≡ o → n .known ≡ false → o ≡ none
+unfolding needed
+needs-none n o e h = sym e ∙ rw h
+
+pub needs-some : (n : Needs) (o : Option (List ℕ)) → needed n ≡ o → n .known ≡ true → o ≡ some (take (n .count) (n .keys))
+unfolding needed
+needs-some n o e h = sym e ∙ rw h
+
+pub both-are : {a b x y v : Bool} → a ≡ x → b ≡ y → (a && b) ≡ v → (x && y) ≡ v
+both-are e q h = ap₂ _&&_ (sym e) (sym q) ∙ h
+
+-- ---- 8 to 10
+
+module _ (s : Bytes) (f g : ℕ → Place) where
+  pub no-code : codeIn s f ≡ none → refuse 8 ≡ byPlaces s f g
+  unfolding byPlaces given
+  no-code e = rw e
+
+  module _ (c : ℕ) (ec : codeIn s f ≡ some c) where
+    pub no-such-code : required c ≡ none → refuse 8 ≡ byPlaces s f g
+    unfolding byPlaces given
+    no-such-code e = rw (ec, e)
+
+    module _ (ks : List ℕ) (ek : required c ≡ some ks) where
+      pub unsuited : (suited headerKeys s f && suited bodyKeys s g) ≡ false → refuse 9 ≡ byPlaces s f g
+      unfolding byPlaces given check
+      unsuited e = rw (ec, ek, e)
+
+      pub not-all-there : (suited headerKeys s f && suited bodyKeys s g) ≡ true → all (λ (k : ℕ). g k .present) ks ≡ false → refuse 10 ≡ byPlaces s f g
+      unfolding byPlaces given check
+      not-all-there e h = rw (ec, ek, e, h)
+
+      pub accepted : (suited headerKeys s f && suited bodyKeys s g) ≡ true → all (λ (k : ℕ). g k .present) ks ≡ true
+          → (r : Frame) → r ≡ frameAt c s f g → _≡_ {A = FrameAnswer} (record { number = 0; length = length s; frame = r }) (byPlaces s f g)
+      unfolding byPlaces given check accept
+      accepted e h r q = rw (ec, ek, e, h, q)
+
+-- ---- 6 and 7
+
+module _ (s : Bytes) (h b : Table) where
+  pub judged-6 : (eqb (h .number) 6 || eqb (b .number) 6) ≡ true → refuse 6 ≡ judged s h b
+  unfolding judged
+  judged-6 e = rw e
+
+  pub judged-7 : (eqb (h .number) 6 || eqb (b .number) 6) ≡ false → (eqb (h .number) 7 || eqb (b .number) 7) ≡ true → refuse 7 ≡ judged s h b
+  unfolding judged
+  judged-7 e q = rw (e, q)
+
+  pub judged-on : (eqb (h .number) 6 || eqb (b .number) 6) ≡ false → (eqb (h .number) 7 || eqb (b .number) 7) ≡ false
+      → byPlaces s (placeIn (h .starts) (h .lengths)) (placeIn (b .starts) (b .lengths)) ≡ judged s h b
+  unfolding judged
+  judged-on e q = rw (e, q)
+
+-- the entries that a table was made of can all be held by it
+abbrev pub Holds : Bytes → Option (List Entry) → Type 0
+Holds s none = Unit {0}
+Holds s (some es) = AllFit s es
+
+by-numbers : (m n : ℕ) (d e : Bool) (x : FrameAnswer) → m ≡ pick d 0 7 → n ≡ pick e 0 7
+    → pick (eqb m 6 || eqb n 6) (refuse 6) (pick (eqb m 7 || eqb n 7) (refuse 7) x) ≡ check (refuse 7) (d && e) x
+unfolding check
+by-numbers m n true true x p q = rw (p, q)
+by-numbers m n true false x p q = rw (p, q)
+by-numbers m n false true x p q = rw (p, q)
+by-numbers m n false false x p q = rw (p, q)
+
+or-true : (b : Bool) → (b || true) ≡ true
+or-true true = refl
+or-true false = refl
+
+-- the tables tell what the entries tell
+pub judged-entries : (s : Bytes) (ho bo : Option (List Entry)) → Holds s ho → Holds s bo → judged s (tabled ho) (tabled bo) ≡ byEntries s ho bo
+unfolding judged byEntries given tabledOn emptyTable
+judged-entries s none bo p q = refl
+judged-entries s (some hs) none p q = rw (or-true (eqb (laidAll hs (emptyTable 0) .number) 6))
+judged-entries s (some hs) (some bs) p q =
+    by-numbers (laidAll hs (emptyTable 0) .number) (laidAll bs (emptyTable 0) .number) (distinct (keys hs)) (distinct (keys bs)) _ (number-found p) (number-found q)
+    ∙ ap₂ (λ (f g : ℕ → Place). check (refuse 7) (distinct (keys hs) && distinct (keys bs)) (byPlaces s f g)) (places-found p) (places-found q)

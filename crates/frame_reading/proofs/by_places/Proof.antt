@@ -1,0 +1,140 @@
+-- The code, its required keys, the types, and what is there. Assumes nothing.
+use Prim.Native.Nat.{ℕ}
+use mathlib.Core.Bool.{Bool, true, false, _&&_}
+use mathlib.Core.Path.{_≡_, sym, ap, _∙_}
+use mathlib.Core.Option.{some}
+use native.Mathlib.Omega.{arith}
+use borrow.Author.Needs.{needs}
+use borrow.Author.Tests.{not-true, not-false}
+use lib.Seq.{length-take-le}
+use Rattle.frames.specs.declared.Place.{Place}
+use Rattle.frames.specs.Keys.{codeIn, headerKeys, bodyKeys}
+use Rattle.frames.specs.Codes.{required}
+use Rattle.frames.specs.Reading.{suited}
+use Rattle.frame_tables.specs.Tables.{placeIn}
+use Rattle.frame_reading.proofs.Places.{code-absent, code-there, needs-none, needs-some, both-are, no-code, no-such-code, unsuited, not-all-there, accepted}
+use Rattle.frame_reading.proofs.by_places.Statement.{statement}
+use Rattle.frame_reading.proofs.by_places.Tie as tie
+
+number-in-requires : tie.Need-number-in-requires
+number-in-requires c κs = search needs
+
+refused-requires : tie.Need-refused-requires
+refused-requires c κs = search needs
+
+returns : tie.Need-returns
+unfolding codeIn
+returns c =
+    let n = c .before .before .before in
+    let a = n .before .before .before .before .before .before .args in
+    c .refused .ensures
+    ∙ no-code (a .s .now) (placeIn (a .header-starts .now) (a .header-lengths .now)) (placeIn (a .starts .now) (a .lengths .now))
+    (code-absent _ _ (n .number-in .ensures) (not-true _ (c .before .if1 .taken)))
+
+needs-of-requires : tie.Need-needs-of-requires
+needs-of-requires c κs = search needs
+
+refused-requires-2 : tie.Need-refused-requires-2
+refused-requires-2 c κs = search needs
+
+returns-2 : tie.Need-returns-2
+unfolding codeIn
+returns-2 c =
+    let d = c .before .before .before in
+    let n = d .before .before .before in
+    let a = n .before .before .before .before .before .before .args in
+    c .refused2 .ensures
+    ∙ no-such-code (a .s .now) (placeIn (a .header-starts .now) (a .header-lengths .now)) (placeIn (a .starts .now) (a .lengths .now))
+    _ (code-there _ _ (n .number-in .ensures) (not-false _ (d .before .if1 .left)))
+    (needs-none _ _ (d .needs-of .ensures .0) (not-true _ (c .before .if2 .taken)))
+
+header-suits-requires : tie.Need-header-suits-requires
+header-suits-requires c κs = search needs
+
+body-suits-requires : tie.Need-body-suits-requires
+body-suits-requires c κs = search needs
+
+refused-requires-3 : tie.Need-refused-requires-3
+refused-requires-3 c κs = search needs
+
+returns-3 : tie.Need-returns-3
+unfolding codeIn
+returns-3 c =
+    let h = c .before .before .before in
+    let d = h .before .before .before in
+    let n = d .before .before .before in
+    let a = n .before .before .before .before .before .before .args in
+    c .refused3 .ensures
+    ∙ unsuited (a .s .now) (placeIn (a .header-starts .now) (a .header-lengths .now)) (placeIn (a .starts .now) (a .lengths .now))
+    _ (code-there _ _ (n .number-in .ensures) (not-false _ (d .before .if1 .left)))
+    _ (needs-some _ _ (d .needs-of .ensures .0) (not-false _ (h .before .if2 .left)))
+    (both-are (h .header-suits .ensures) (c .before .before .body-suits .ensures) (not-true _ (c .before .if3 .taken)))
+
+array-share-prefix-keys : tie.Need-array-share-prefix-keys
+array-share-prefix-keys c = c .before .before .before .before .before .before .needs-of .ensures .1
+
+slice-aggregate-all-there : tie.Need-slice-aggregate-all-there
+slice-aggregate-all-there c =
+    let d = c .before .before .before .before .before .before .before in
+    sym (length-take-le _ (d .needs-of .result .keys) (d .needs-of .ensures .1))
+
+all-there-requires : tie.Need-all-there-requires
+all-there-requires c κs = search needs
+
+refused-requires-4 : tie.Need-refused-requires-4
+refused-requires-4 c κs = search needs
+
+returns-4 : tie.Need-returns-4
+unfolding codeIn
+returns-4 c =
+    let i = c .before .before .before .before .before in
+    let h = i .before .before in
+    let d = h .before .before .before in
+    let n = d .before .before .before in
+    let a = n .before .before .before .before .before .before .args in
+    c .refused4 .ensures
+    ∙ not-all-there (a .s .now) (placeIn (a .header-starts .now) (a .header-lengths .now)) (placeIn (a .starts .now) (a .lengths .now))
+    _ (code-there _ _ (n .number-in .ensures) (not-false _ (d .before .if1 .left)))
+    _ (needs-some _ _ (d .needs-of .ensures .0) (not-false _ (h .before .if2 .left)))
+    (both-are (h .header-suits .ensures) (i .before .body-suits .ensures) (not-false _ (i .if3 .left)))
+    (sym (c .before .before .all-there .ensures) ∙ not-true _ (c .before .if4 .taken))
+
+frame-of-requires : tie.Need-frame-of-requires
+frame-of-requires c κs = search needs
+
+returns-5 : tie.Need-returns-5
+unfolding codeIn
+returns-5 c =
+    let i = c .before .before .before .before .before in
+    let h = i .before .before in
+    let d = h .before .before .before in
+    let n = d .before .before .before in
+    let a = n .before .before .before .before .before .before .args in
+    accepted (a .s .now) (placeIn (a .header-starts .now) (a .header-lengths .now)) (placeIn (a .starts .now) (a .lengths .now))
+    _ (code-there _ _ (n .number-in .ensures) (not-false _ (d .before .if1 .left)))
+    _ (needs-some _ _ (d .needs-of .ensures .0) (not-false _ (h .before .if2 .left)))
+    (both-are (h .header-suits .ensures) (i .before .body-suits .ensures) (not-false _ (i .if3 .left)))
+    (sym (c .before .before .all-there .ensures) ∙ not-false _ (c .before .if4 .left))
+    _ (c .frame-of .ensures)
+
+pub by-places-spec : {M : Type 1} → statement M
+by-places-spec =
+    tie.close
+    (tie.spec
+    number-in-requires
+    refused-requires
+    returns
+    needs-of-requires
+    refused-requires-2
+    returns-2
+    header-suits-requires
+    body-suits-requires
+    refused-requires-3
+    returns-3
+    array-share-prefix-keys
+    slice-aggregate-all-there
+    all-there-requires
+    refused-requires-4
+    returns-4
+    frame-of-requires
+    returns-5)

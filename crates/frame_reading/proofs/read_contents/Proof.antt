@@ -1,0 +1,156 @@
+-- Each way through header and body. Assumes nothing.
+use Prim.Native.Nat.{ℕ}
+use mathlib.Core.Path.{_≡_, sym, ap, ap₂, _∙_}
+use mathlib.Core.List.{[]}
+use mathlib.Core.Option.{some}
+use borrow.Author.Needs.{needs}
+use Rattle.values.specs.Value.{shift, value}
+use Rattle.frames.specs.Limits.{maxDepth, heldDepth}
+use Rattle.frames.specs.Maps.{entriesAt}
+use Rattle.frame_tables.specs.Tables.{laidAll, tabledOn, tabled}
+use Rattle.frame_reading.specs.Steps.{judged}
+use Rattle.frame_reading.proofs.Contents.{body-there, body-missing, moved, no-header, no-body, bad-body, bytes-remain, all-read}
+use Rattle.frame_reading.proofs.read_contents.Statement.{statement}
+use Rattle.frame_reading.proofs.read_contents.Tie as tie
+
+read-value-requires : tie.Need-read-value-requires
+read-value-requires c κs = search needs
+
+enum-known-end : tie.Need-enum-known-end
+enum-known-end c = search needs
+
+enum-told : tie.Need-enum-told
+enum-told c = search needs
+
+refused-requires : tie.Need-refused-requires
+refused-requires c κs = search needs
+
+returns : tie.Need-returns
+returns c =
+    let v = c .before .before .before in
+    let a = v .before .before .args in
+    c .refused .ensures ∙ no-header (a .s .now) (a .at) _ (sym (c .before .enum-told .given .1) ∙ v .read-value .ensures)
+
+body-at-requires : tie.Need-body-at-requires
+body-at-requires c κs = search needs
+
+enum-known-from : tie.Need-enum-known-from
+enum-known-from c = search needs
+
+enum-told-2 : tie.Need-enum-told-2
+enum-told-2 c = search needs
+
+table-at-requires : tie.Need-table-at-requires
+table-at-requires c κs = search needs
+
+empty-table-requires : tie.Need-empty-table-requires
+empty-table-requires c κs = search needs
+
+judge-requires : tie.Need-judge-requires
+judge-requires c κs = search needs
+
+returns-2 : tie.Need-returns-2
+unfolding tabledOn laidAll
+returns-2 c =
+    let t = c .before .before in
+    let b = t .before .before .before in
+    let e = b .before .before in
+    let v = e .before .before in
+    let a = v .before .before .args in
+    c .judge .ensures
+    ∙ ap₂ (judged (a .s .now)) (t .table-at .ensures) (c .before .empty-table .ensures)
+    ∙ no-body (a .s .now) (a .at) _ (sym (e .end .given .1) ∙ v .read-value .ensures) (body-missing (a .s .now) _ (sym (t .before .enum-told2 .given .1) ∙ b .body-at .ensures))
+
+read-value-requires-2 : tie.Need-read-value-requires-2
+read-value-requires-2 c κs = search needs
+
+enum-known-last : tie.Need-enum-known-last
+enum-known-last c = search needs
+
+enum-told-3 : tie.Need-enum-told-3
+enum-told-3 c = search needs
+
+refused-requires-2 : tie.Need-refused-requires-2
+refused-requires-2 c κs = search needs
+
+returns-3 : tie.Need-returns-3
+returns-3 c =
+    let w = c .before .before .before in
+    let f = w .before .before in
+    let b = f .before .before in
+    let e = b .before .before in
+    let v = e .before .before in
+    let a = v .before .before .args in
+    let d = body-there (a .s .now) _ _ (sym (f .from .given .1) ∙ b .body-at .ensures) in
+    c .refused2 .ensures
+    ∙ bad-body (a .s .now) (a .at) _ (sym (e .end .given .1) ∙ v .read-value .ensures) (d .0) _ (moved _ (a .s .now) _ _ (d .1) (sym (c .before .enum-told3 .given .1) ∙ w .read-value2 .ensures))
+
+refused-requires-3 : tie.Need-refused-requires-3
+refused-requires-3 c κs = search needs
+
+returns-4 : tie.Need-returns-4
+returns-4 c =
+    let l = c .before .before .before in
+    let w = l .before .before in
+    let f = w .before .before in
+    let b = f .before .before in
+    let e = b .before .before in
+    let v = e .before .before in
+    let a = v .before .before .args in
+    let d = body-there (a .s .now) _ _ (sym (f .from .given .1) ∙ b .body-at .ensures) in
+    c .refused3 .ensures
+    ∙ bytes-remain (a .s .now) (a .at) _ (sym (e .end .given .1) ∙ v .read-value .ensures) (d .0) _ (moved _ (a .s .now) _ _ (d .1) (sym (l .last .given .1) ∙ w .read-value2 .ensures))
+    (c .before .if1 .taken)
+
+table-at-requires-2 : tie.Need-table-at-requires-2
+table-at-requires-2 c κs = search needs
+
+table-at-requires-3 : tie.Need-table-at-requires-3
+table-at-requires-3 c κs = search needs
+
+judge-requires-2 : tie.Need-judge-requires-2
+judge-requires-2 c κs = search needs
+
+returns-5 : tie.Need-returns-5
+returns-5 c =
+    let i = c .before .before .before in
+    let l = i .before .before in
+    let w = l .before .before in
+    let f = w .before .before in
+    let b = f .before .before in
+    let e = b .before .before in
+    let v = e .before .before in
+    let a = v .before .before .args in
+    let d = body-there (a .s .now) _ _ (sym (f .from .given .1) ∙ b .body-at .ensures) in
+    c .judge2 .ensures
+    ∙ ap₂ (judged (a .s .now)) (c .before .before .table-at2 .ensures) (c .before .table-at3 .ensures ∙ ap (λ (x : ℕ). tabled (entriesAt heldDepth (a .s .now) x)) (d .1))
+    ∙ all-read (a .s .now) (a .at) _ (sym (e .end .given .1) ∙ v .read-value .ensures) (d .0) _ (moved _ (a .s .now) _ _ (d .1) (sym (l .last .given .1) ∙ w .read-value2 .ensures))
+    (i .if1 .left)
+
+pub read-contents-spec : {M : Type 1} → statement M
+read-contents-spec =
+    tie.close
+    (tie.spec
+    read-value-requires
+    enum-known-end
+    enum-told
+    refused-requires
+    returns
+    body-at-requires
+    enum-known-from
+    enum-told-2
+    table-at-requires
+    empty-table-requires
+    judge-requires
+    returns-2
+    read-value-requires-2
+    enum-known-last
+    enum-told-3
+    refused-requires-2
+    returns-3
+    refused-requires-3
+    returns-4
+    table-at-requires-2
+    table-at-requires-3
+    judge-requires-2
+    returns-5)

@@ -1,0 +1,197 @@
+// Reading a frame: the size number, then header and body, each refusal in document 01's order.
+use frame_tables::Table;
+use frames::Frame;
+use frames::FrameAnswer;
+use frames::OptionalNumber;
+use frames::Place;
+use frames::Size;
+use scalars::Natural;
+use values::Read;
+ghost use mathlib.Core.Path.{_≡_};
+ghost use Rattle.frames.specs.Keys.{emptyFrame};
+ghost use Rattle.frames.specs.Reading.{refuse, byPlaces, inFrame, sizeOf, frameRead};
+ghost use Rattle.frame_tables.specs.Tables.{placeIn};
+ghost use Rattle.frame_reading.specs.Steps.{judged, bodyAt};
+
+// Whether a body follows the header, and where.
+enum Body {
+    At(usize),
+    Missing,
+}
+
+// The size number at the front of `s`: 2, 1 and 3.
+pub fn read_size(s: &[u8]) -> Size
+    ensures { λ r. ⌜ r ≡ sizeOf (now (s .entry)) ⌝ }
+{
+    match scalars::unsigned_at(s, 0) {
+        Natural::Is(n, from) => {
+            if n == 0 {
+                return Size::Refused(3);
+            }
+            if 60_000 < n {
+                return Size::Refused(3);
+            }
+            Size::Promises(n as usize, from)
+        }
+        Natural::Cut => Size::Refused(1),
+        Natural::Other => Size::Refused(2),
+    }
+}
+
+fn empty_frame() -> Frame
+    ensures { λ r. ⌜ r ≡ emptyFrame ⌝ }
+{
+    let number = OptionalNumber {
+        present: false,
+        value: 0,
+    };
+    let place = Place {
+        present: false,
+        start: 0,
+        length: 0,
+    };
+    Frame {
+        code: 0,
+        sync: number,
+        schema_version: number,
+        space: number,
+        index: number,
+        limit: number,
+        offset: number,
+        iterator: number,
+        index_base: number,
+        key: place,
+        tuple: place,
+        function: place,
+        user: place,
+        expression: place,
+        ops: place,
+        data: place,
+        error: place,
+    }
+}
+
+fn refused(number: u32) -> FrameAnswer
+    ensures { λ r. ⌜ r ≡ refuse number ⌝ }
+{
+    FrameAnswer {
+        number,
+        length: 0,
+        frame: empty_frame(),
+    }
+}
+
+// 8 to 10, by where each key's value stands in the header and in the body.
+fn by_places<'a>(
+    s: &[u8],
+    header_starts: &'a [usize],
+    header_lengths: &'a [usize],
+    starts: &'a [usize],
+    lengths: &'a [usize],
+) -> FrameAnswer
+    ensures { λ r. ⌜ r ≡ byPlaces (now (s .entry)) (placeIn (now («header_starts» .entry)) (now («header_lengths» .entry))) (placeIn (now (starts .entry)) (now (lengths .entry))) ⌝ }
+{
+    let code = frame_fields::number_in(s, header_starts, header_lengths, 0x00);
+    if !code.present {
+        return refused(8);
+    }
+    let needs = frame_rules::needs_of(code.value);
+    if !needs.known {
+        return refused(8);
+    }
+    let suited = frame_fields::header_suits(s, header_starts, header_lengths)
+        & frame_fields::body_suits(s, starts, lengths);
+    if !suited {
+        return refused(9);
+    }
+    let keys = needs.keys;
+    let count = needs.count;
+    if !frame_fields::all_there(starts, lengths, &keys[..count]) {
+        return refused(10);
+    }
+    let frame = frame_fields::frame_of(
+        code.value,
+        s,
+        header_starts,
+        header_lengths,
+        starts,
+        lengths,
+    );
+    FrameAnswer {
+        number: 0,
+        length: s.len(),
+        frame,
+    }
+}
+
+// 6 and 7, over the header and then the body.
+fn judge(s: &[u8], header: Table, body: Table) -> FrameAnswer
+    ensures { λ r. ⌜ r ≡ judged (now (s .entry)) header body ⌝ }
+{
+    if (header.number == 6) | (body.number == 6) {
+        return refused(6);
+    }
+    if (header.number == 7) | (body.number == 7) {
+        return refused(7);
+    }
+    by_places(
+        s,
+        &header.starts,
+        &header.lengths,
+        &body.starts,
+        &body.lengths,
+    )
+}
+
+fn body_at(s: &[u8], at: usize) -> Body
+    ensures { λ r. ⌜ r ≡ bodyAt (now (s .entry)) at ⌝ }
+{
+    if at < s.len() {
+        Body::At(at)
+    } else {
+        Body::Missing
+    }
+}
+
+// 4 to 10: `s` is one frame and nothing more, its header at `at`.
+pub fn read_contents(s: &[u8], at: usize) -> FrameAnswer
+    ensures { λ r. ⌜ r ≡ inFrame (now (s .entry)) at ⌝ }
+{
+    let Read::Whole(end) = values::read_value(s, at, 16) else {
+        return refused(4);
+    };
+    let Body::At(from) = body_at(s, end) else {
+        return judge(
+            s,
+            frame_tables::table_at(s, at),
+            frame_tables::empty_table(0),
+        );
+    };
+    let Read::Whole(last) = values::read_value(s, from, 16) else {
+        return refused(4);
+    };
+    if last < s.len() {
+        return refused(5);
+    }
+    judge(
+        s,
+        frame_tables::table_at(s, at),
+        frame_tables::table_at(s, from),
+    )
+}
+
+// The first frame of `s`; what follows it is not judged.
+pub fn read_frame(s: &[u8]) -> FrameAnswer
+    ensures { λ r. ⌜ r ≡ frameRead (now (s .entry)) ⌝ }
+{
+    match read_size(s) {
+        Size::Refused(number) => refused(number),
+        Size::Promises(size, from) => {
+            if s.len() - from < size {
+                return refused(1);
+            }
+            let end = from + size;
+            read_contents(&s[..end], from)
+        }
+    }
+}

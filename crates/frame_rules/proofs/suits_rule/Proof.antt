@@ -1,0 +1,67 @@
+-- By the rule. Assumes nothing.
+use mathlib.Core.Path.{sym, ap, _∙_}
+use borrow.Author.Needs.{needs}
+use Rattle.frames.specs.Held.{heldIn, suits}
+use Rattle.frames.specs.declared.Rule.{Rule}
+use Rattle.frame_rules.proofs.suits_rule.Statement.{statement}
+use Rattle.frame_rules.proofs.suits_rule.Tie as tie
+
+enum-known-rule : tie.Need-enum-known-rule
+enum-known-rule c = search needs
+
+at-most-requires : tie.Need-at-most-requires
+at-most-requires c κs = search needs
+
+enum-told : tie.Need-enum-told
+enum-told c = search needs
+
+opens-requires : tie.Need-opens-requires
+opens-requires c κs = search needs
+
+enum-told-2 : tie.Need-enum-told-2
+enum-told-2 c = search needs
+
+opens-requires-2 : tie.Need-opens-requires-2
+opens-requires-2 c κs = search needs
+
+enum-told-3 : tie.Need-enum-told-3
+enum-told-3 c = search needs
+
+returns : tie.Need-returns
+returns c =
+    let a = c .before .before .before .before .before .args in
+    c .at-most .ensures ∙ ap (λ (r : Rule). suits r (heldIn r (a .v .now))) (sym (c .before .before .rule .given .1))
+
+returns-2 : tie.Need-returns-2
+unfolding suits heldIn
+returns-2 c =
+    let a = c .before .before .before .before .args in
+    c .opens .ensures ∙ ap (λ (r : Rule). suits r (heldIn r (a .v .now))) (sym (c .before .enum-told .given .1))
+
+returns-3 : tie.Need-returns-3
+unfolding suits heldIn
+returns-3 c =
+    let a = c .before .before .before .before .args in
+    c .opens2 .ensures ∙ ap (λ (r : Rule). suits r (heldIn r (a .v .now))) (sym (c .before .enum-told2 .given .1))
+
+returns-4 : tie.Need-returns-4
+unfolding suits heldIn
+returns-4 c =
+    let a = c .before .before .before .args in
+    ap (λ (r : Rule). suits r (heldIn r (a .v .now))) (sym (c .enum-told3 .given .1))
+
+pub suits-rule-spec : {M : Type 1} → statement M
+suits-rule-spec =
+    tie.close
+    (tie.spec
+    enum-known-rule
+    at-most-requires
+    enum-told
+    opens-requires
+    enum-told-2
+    opens-requires-2
+    enum-told-3
+    returns
+    returns-2
+    returns-3
+    returns-4)

@@ -1,0 +1,2 @@
+-- What a code requires, as the code holds it.
+pub mod Needs

@@ -1,0 +1,86 @@
+// What a known key must hold, and what a code requires: the two judgements that reading and writing share.
+use frames::Rule;
+use scalars::Header;
+use scalars::Natural;
+use scalars::Opening;
+ghost use mathlib.Core.Path.{_≡_};
+ghost use Prim.Native.Nat.{_≤_};
+ghost use lib.ListN.{length};
+ghost use Rattle.scalars.specs.Start.{startBy};
+ghost use Rattle.scalars.specs.Header.{header};
+ghost use Rattle.frames.specs.Held.{heldIn, suits, opened};
+ghost use Rattle.frames.specs.Codes.{required};
+ghost use Rattle.frame_rules.specs.Needs.{needed, knownNeeds};
+
+// The body keys that a code requires: the first `count` of `keys`; not known: no such code.
+pub struct Needs {
+    pub known: bool,
+    pub count: usize,
+    pub keys: [usize; 6],
+}
+
+fn opens(v: &[u8], opening: Opening) -> bool
+    ensures { λ r. ⌜ r ≡ opened (header (startBy opening) (now (v .entry))) ⌝ }
+{
+    match scalars::header_at(v, 0, opening) {
+        Header::Is(_, _) => true,
+        Header::Other => false,
+    }
+}
+
+fn at_most(v: &[u8], limit: u64) -> bool
+    ensures { λ r. ⌜ r ≡ suits (Rule.AtMost limit) (heldIn (Rule.AtMost limit) (now (v .entry))) ⌝ }
+{
+    match scalars::unsigned_at(v, 0) {
+        Natural::Is(n, _) => n <= limit,
+        Natural::Cut => false,
+        Natural::Other => false,
+    }
+}
+
+// Whether the bytes of a value suit what their key must hold.
+pub fn suits_rule(rule: Rule, v: &[u8]) -> bool
+    ensures { λ r. ⌜ r ≡ suits rule (heldIn rule (now (v .entry))) ⌝ }
+{
+    match rule {
+        Rule::AtMost(limit) => at_most(v, limit),
+        Rule::Array => opens(v, Opening::Array),
+        Rule::String => opens(v, Opening::String),
+        Rule::Anything => true,
+    }
+}
+
+fn needing(count: usize, keys: [usize; 6]) -> Needs
+    ensures { λ r. ⌜ r ≡ knownNeeds count keys ⌝ }
+{
+    Needs {
+        known: true,
+        count,
+        keys,
+    }
+}
+
+pub fn needs_of(code: u64) -> Needs
+    ensures { λ r. ⌜ (needed r ≡ required code) × (r .count ≤ length (r .keys)) ⌝ }
+{
+    match code {
+        0x00 => needing(0, [0, 0, 0, 0, 0, 0]),
+        0x01 => needing(6, [0x10, 0x11, 0x12, 0x13, 0x14, 0x20]),
+        0x02 => needing(2, [0x10, 0x21, 0, 0, 0, 0]),
+        0x03 => needing(2, [0x10, 0x21, 0, 0, 0, 0]),
+        0x04 => needing(4, [0x10, 0x11, 0x20, 0x21, 0, 0]),
+        0x05 => needing(3, [0x10, 0x11, 0x20, 0, 0, 0]),
+        0x06 => needing(2, [0x22, 0x21, 0, 0, 0, 0]),
+        0x07 => needing(2, [0x23, 0x21, 0, 0, 0, 0]),
+        0x08 => needing(2, [0x27, 0x21, 0, 0, 0, 0]),
+        0x09 => needing(3, [0x10, 0x21, 0x28, 0, 0, 0]),
+        0x0a => needing(2, [0x22, 0x21, 0, 0, 0, 0]),
+        0x40 => needing(0, [0, 0, 0, 0, 0, 0]),
+        0x8000..=0x8fff => needing(1, [0x31, 0, 0, 0, 0, 0]),
+        _ => Needs {
+            known: false,
+            count: 0,
+            keys: [0, 0, 0, 0, 0, 0],
+        },
+    }
+}

@@ -1,0 +1,67 @@
+-- An unsigned number below 128, and then a value. Assumes nothing.
+use mathlib.Core.Path.{sym, _∙_}
+use native.Mathlib.Omega.{arith}
+use borrow.Author.Needs.{needs}
+use Rattle.frame_tables.proofs.Entries.{no-number, large-key, no-value, one-entry, ends-after}
+use Rattle.frame_tables.proofs.entry_at.Statement.{statement}
+use Rattle.frame_tables.proofs.entry_at.Tie as tie
+
+unsigned-at-requires : tie.Need-unsigned-at-requires
+unsigned-at-requires c κs = search needs
+
+enum-known-key : tie.Need-enum-known-key
+enum-known-key c = search needs
+
+returns : tie.Need-returns
+returns c =
+    let a = c .before .before .before .args in
+    no-number (a .s .now) (a .at) _ (c .before .unsigned-at .ensures) (c .match .keys2)
+
+returns-2 : tie.Need-returns-2
+returns-2 c =
+    let b = c .before .before .before in
+    let a = b .before .before .before .args in
+    large-key (a .s .now) (a .at) _ _ (sym (c .before .before .key .given .1) ∙ b .before .unsigned-at .ensures) (c .if1 .taken)
+
+read-value-requires : tie.Need-read-value-requires
+read-value-requires c κs = search needs
+
+enum-known-end : tie.Need-enum-known-end
+enum-known-end c = search needs
+
+enum-told : tie.Need-enum-told
+enum-told c = search needs
+
+returns-3 : tie.Need-returns-3
+returns-3 c =
+    let d = c .before .before .before in
+    let b = d .before .before .before in
+    let a = b .before .before .before .args in
+    no-value (a .s .now) (a .at) _ _ (sym (d .before .before .key .given .1) ∙ b .before .unsigned-at .ensures) _ (d .if1 .left)
+    (sym (c .enum-told .given .1) ∙ c .before .before .read-value .ensures)
+
+sub-t10 : tie.Need-sub-t10
+sub-t10 c = ends-after _ _ _ (sym (c .before .end .given .1) ∙ c .before .before .before .read-value .ensures)
+
+returns-4 : tie.Need-returns-4
+returns-4 c =
+    let d = c .before .before .before .before in
+    let b = d .before .before .before in
+    let a = b .before .before .before .args in
+    one-entry (a .s .now) (a .at) _ _ (sym (d .before .before .key .given .1) ∙ b .before .unsigned-at .ensures) _ (d .if1 .left)
+    (sym (c .before .end .given .1) ∙ c .before .before .before .read-value .ensures)
+
+pub entry-at-spec : {M : Type 1} → statement M
+entry-at-spec =
+    tie.close
+    (tie.spec
+    unsigned-at-requires
+    enum-known-key
+    returns
+    returns-2
+    read-value-requires
+    enum-known-end
+    enum-told
+    returns-3
+    sub-t10
+    returns-4)

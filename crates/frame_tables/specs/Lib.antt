@@ -1,0 +1,2 @@
+-- A map of a frame as a table of its keys.
+pub mod Tables

@@ -1,0 +1,126 @@
+// A map of a frame into a table: one pass, after which each key is a look-up.
+use frames::Place;
+use scalars::Header;
+use scalars::Natural;
+use scalars::Opening;
+use values::Read;
+ghost use mathlib.Core.Path.{_≡_};
+ghost use lib.ListN.{getD};
+ghost use Rattle.frames.specs.Keys.{nowhere};
+ghost use Rattle.frames.specs.Limits.{heldDepth};
+ghost use Rattle.frames.specs.Maps.{entryAt, entries, entriesAt};
+ghost use Rattle.frame_tables.specs.Tables.{emptyTable, stepOf, tabled, placeIn};
+
+// Where the value of each key starts, and its length: 0 where the key is absent. The number is 6
+// where the value is no map or a key no number below 128, 7 where a key stands twice, else 0.
+pub struct Table {
+    pub number: u32,
+    pub starts: [usize; 128],
+    pub lengths: [usize; 128],
+}
+
+pub fn empty_table(number: u32) -> Table
+    ensures { λ r. ⌜ r ≡ emptyTable number ⌝ }
+{
+    Table {
+        number,
+        starts: [0usize; 128],
+        lengths: [0usize; 128],
+    }
+}
+
+// One key of a map with its value's start and length, or that it is no key.
+enum Step {
+    Entry(usize, usize, usize),
+    NoKey,
+}
+
+// The entry at `at`.
+fn entry_at(s: &[u8], at: usize) -> Step
+    ensures { λ r. ⌜ r ≡ stepOf (entryAt heldDepth (now (s .entry)) at) ⌝ }
+{
+    let Natural::Is(key, start) = scalars::unsigned_at(s, at) else {
+        return Step::NoKey;
+    };
+    if 127 < key {
+        return Step::NoKey;
+    }
+    let Read::Whole(end) = values::read_value(s, start, 15) else {
+        return Step::NoKey;
+    };
+    Step::Entry(key as usize, start, end - start)
+}
+
+// `count` entries from `from` on. It goes on after a key that stood before, since 6 beats 7.
+fn table_of(s: &[u8], count: usize, from: usize) -> Table
+    ensures { λ r. ⌜ r ≡ tabled (entries heldDepth (now (s .entry)) count from) ⌝ }
+{
+    let mut starts = [0usize; 128];
+    let mut lengths = [0usize; 128];
+    let mut number: u32 = 0;
+    let mut at = from;
+    let mut left = count;
+    while 0 < left {
+        let Step::Entry(key, start, length) = entry_at(s, at) else {
+            return empty_table(6);
+        };
+        if lengths[key] == 0 {
+            starts[key] = start;
+            lengths[key] = length;
+        } else {
+            number = 7;
+        }
+        at = start + length;
+        left -= 1;
+    }
+    Table {
+        number,
+        starts,
+        lengths,
+    }
+}
+
+// The table of the value at `at`.
+pub fn table_at(s: &[u8], at: usize) -> Table
+    ensures { λ r. ⌜ r ≡ tabled (entriesAt heldDepth (now (s .entry)) at) ⌝ }
+{
+    let Header::Is(count, from) = scalars::header_at(s, at, Opening::Map) else {
+        return empty_table(6);
+    };
+    table_of(s, count, from)
+}
+
+fn absent() -> Place
+    ensures { λ r. ⌜ r ≡ nowhere ⌝ }
+{
+    Place {
+        present: false,
+        start: 0,
+        length: 0,
+    }
+}
+
+// 0 past the end, so that every key has an answer.
+fn number_under(list: &[usize], key: usize) -> usize
+    ensures { λ r. ⌜ r ≡ getD (now (list .entry)) key 0 ⌝ }
+{
+    if list.len() <= key {
+        return 0;
+    }
+    list[key]
+}
+
+// Where a table says that a key's value stands.
+pub fn place_in(starts: &[usize], lengths: &[usize], key: usize) -> Place
+    ensures { λ r. ⌜ r ≡ placeIn (now (starts .entry)) (now (lengths .entry)) key ⌝ }
+{
+    let length = number_under(lengths, key);
+    if length == 0 {
+        return absent();
+    }
+    Place {
+        present: true,
+        start: number_under(starts, key),
+        length,
+    }
+}

@@ -1,0 +1,114 @@
+-- What a key holds, and what it must hold.
+use Prim.Native.Nat.{ℕ, _+_}
+use mathlib.Core.Bool.{Bool, true, false, _&&_}
+use mathlib.Core.List.{List, [], _∷_}
+use mathlib.Core.Option.{Option, none, some}
+use lib.Dec.{leb, eqb}
+use lib.ListN.{length, take, drop}
+use Rattle.first_bytes.specs.Bytes.{Bytes, pick}
+use Rattle.first_bytes.specs.declared.Form.{Form}
+use Rattle.scalars.specs.Start.{stringBy, arrayBy}
+use Rattle.scalars.specs.Integer.{unsigned}
+use Rattle.scalars.specs.Header.{header}
+use Rattle.scalars.specs.declared.Start.{Start}
+use Rattle.scalars.specs.declared.Natural.{Natural}
+use Rattle.scalars.specs.declared.Natural.the-variants.{Is, Cut, Other}
+use Rattle.scalars.specs.declared.Header.{Header}
+use Rattle.scalars.specs.declared.Header.the-variants.{Is as Opens, Other as Elsewhere}
+use Rattle.writing.specs.Forms.{unsignedForm}
+use Rattle.frames.specs.declared.OptionalNumber.{OptionalNumber}
+use Rattle.frames.specs.declared.Place.{Place}
+use Rattle.frames.specs.declared.Rule.{Rule}
+use Rattle.frames.specs.declared.Rule.the-variants.{AtMost, Array, String, Anything}
+
+unfoldable pub all : {A : Type 0} → (A → Bool) → List A → Bool
+all p [] = true
+all p (x ∷ xs) = p x && all p xs
+
+-- ---- what a key holds: nothing, a place outside its bytes (the writer may be given one), a number, or a value's encoding
+
+pub data Held : Type 0 where
+  absent : Held
+  outside : Held
+  number : ℕ → Held
+  bytes : Bytes → Held
+
+-- "A value's view is the part of the caller's bytes holding exactly its encoding, header byte included."
+unfoldable pub view : Bytes → Place → Bytes
+view s p = take (p .length) (drop (p .start) s)
+
+-- the number that a view is, in any width
+unfoldable pub natural : Natural → Option ℕ
+natural (Is n e) = some n
+natural Cut = none
+natural Other = none
+
+unfoldable pub numberIn : Bytes → Place → Option ℕ
+numberIn s p = pick (p .present) (natural (unsigned (view s p))) none
+
+-- ---- 9: "a known key holds a wrong type or range". One check for the reader and the writer
+
+unfoldable pub opened : Header → Bool
+opened (Opens n e) = true
+opened Elsewhere = false
+
+unfoldable pub suits : Rule → Held → Bool
+suits rule absent = true
+suits rule outside = false
+suits (AtMost m) (number n) = leb n m
+suits (AtMost m) (bytes v) = false
+suits Array (number n) = false
+suits Array (bytes v) = opened (header arrayBy v)
+suits String (number n) = false
+suits String (bytes v) = opened (header stringBy v)
+suits Anything (number n) = false
+suits Anything (bytes v) = true
+
+-- ---- as it is read: from a place
+
+unfoldable pub numbered : Option ℕ → Bytes → Held
+numbered none v = bytes v
+numbered (some n) v = number n
+
+unfoldable pub heldIn : Rule → Bytes → Held
+heldIn (AtMost m) v = numbered (natural (unsigned v)) v
+heldIn Array v = bytes v
+heldIn String v = bytes v
+heldIn Anything v = bytes v
+
+unfoldable pub heldAt : Rule → Bytes → Place → Held
+heldAt rule s p = pick (p .present) (heldIn rule (view s p)) absent
+
+-- ---- as it is written: from a record's field, a place being of the bytes s
+
+unfoldable pub numberHeld : OptionalNumber → Held
+numberHeld n = pick (n .present) (number (n .value)) absent
+
+unfoldable pub placeHeld : Bytes → Place → Held
+placeHeld s p = pick (p .present) (pick (leb (p .start + p .length) (length s)) (bytes (view s p)) outside) absent
+
+-- "numbers shortest, values copied"
+unfoldable pub encoded : Held → Option Bytes
+encoded absent = none
+encoded outside = none
+encoded (number n) = some (unsignedForm n)
+encoded (bytes v) = some v
+
+unfoldable pub present : {A : Type 0} → Option A → Bool
+present none = false
+present (some x) = true
+
+-- ---- a known key, what it must hold, and what it holds
+
+pub record Item : Type 0 where
+  pub key : ℕ
+  pub rule : Rule
+  pub held : Held
+
+abbrev pub item : ℕ → Rule → Held → Item
+item k r h = record { key = k; rule = r; held = h }
+
+-- what a key holds among items
+unfoldable pub locate : List Item → ℕ → Held
+locate [] k = absent
+locate (x ∷ xs) k = pick (eqb k (x .key)) (x .held) (locate xs k)

@@ -1,0 +1,89 @@
+-- Reading a frame. "Order in reading: 2 on the first byte, 1 for an unfinished size number, 3, 1 for missing contents, then 4 to 10;
+-- each over the whole header and then the whole body before the next."
+use Prim.Native.Nat.{ℕ, _+_}
+use mathlib.Core.Bool.{Bool, _&&_}
+use mathlib.Core.List.{List, [], _∷_}
+use mathlib.Core.Option.{Option, none, some}
+use lib.Dec.{leb, eqb}
+use lib.ListN.{length, take, drop}
+use Rattle.first_bytes.specs.Bytes.{Bytes, pick}
+use Rattle.values.specs.Value.{value}
+use Rattle.values.specs.declared.Read.{Read}
+use Rattle.values.specs.declared.Read.the-variants.{Whole, Broken}
+use Rattle.scalars.specs.Integer.{unsigned}
+use Rattle.scalars.specs.declared.Natural.{Natural}
+use Rattle.scalars.specs.declared.Natural.the-variants.{Is, Cut, Other}
+use Rattle.frames.specs.declared.Place.{Place}
+use Rattle.frames.specs.declared.Frame.{Frame}
+use Rattle.frames.specs.declared.FrameAnswer.{FrameAnswer}
+use Rattle.frames.specs.declared.Size.{Size}
+use Rattle.frames.specs.declared.Size.the-variants.{Promises, Refused}
+use Rattle.frames.specs.Limits.{maxSize, maxDepth, heldDepth}
+use Rattle.frames.specs.Held.{all, suits, heldAt, Item}
+use Rattle.frames.specs.Keys.{codeIn, frameAt, emptyFrame, headerKeys, bodyKeys}
+use Rattle.frames.specs.Codes.{required}
+use Rattle.frames.specs.Maps.{Entry, entriesAt, keys, distinct, find}
+use Rattle.frames.specs.Cascade.{check, given, whole}
+
+-- "A refusal answers its number, with length 0 and an empty record"
+unfoldable pub refuse : ℕ → FrameAnswer
+refuse n = record { number = n; length = 0; frame = emptyFrame }
+
+-- "An accepted call answers 0 with the length written or the record."
+unfoldable pub accept : ℕ → Frame → FrameAnswer
+accept n r = record { number = 0; length = n; frame = r }
+
+-- 9, over known keys, each where f says that it stands
+unfoldable pub suited : List Item → Bytes → (ℕ → Place) → Bool
+suited xs s f = all (λ (x : Item). suits (x .rule) (heldAt (x .rule) s (f (x .key)))) xs
+
+-- 8 to 10, and the record: by where each key's value stands in the header (f) and in the body (g)
+unfoldable pub byPlaces : Bytes → (ℕ → Place) → (ℕ → Place) → FrameAnswer
+byPlaces s f g =
+    given (refuse 8) (codeIn s f) (λ code.
+    given (refuse 8) (required code) (λ needs.
+    check (refuse 9) (suited headerKeys s f && suited bodyKeys s g)
+    (check (refuse 10) (all (λ (k : ℕ). g k .present) needs)
+    (accept (length s) (frameAt code s f g)))))
+
+-- 6 and 7, by the entries of header and body
+unfoldable pub byEntries : Bytes → Option (List Entry) → Option (List Entry) → FrameAnswer
+byEntries s header body =
+    given (refuse 6) header (λ hs.
+    given (refuse 6) body (λ bs.
+    check (refuse 7) (distinct (keys hs) && distinct (keys bs))
+    (byPlaces s (find hs) (find bs))))
+
+-- "A missing body counts as an empty map."
+unfoldable pub bodyValue : Bytes → Read
+bodyValue [] = Whole 0
+bodyValue (b ∷ s) = value maxDepth (b ∷ s)
+
+unfoldable pub bodyEntries : Bytes → ℕ → Bytes → Option (List Entry)
+bodyEntries s at [] = some []
+bodyEntries s at (b ∷ t) = entriesAt heldDepth s at
+
+-- 4 and 5: s is one frame and nothing more, its header from `at` on; then the rest
+unfoldable pub inFrame : Bytes → ℕ → FrameAnswer
+inFrame s at =
+    whole (refuse 4) (value maxDepth (drop at s)) (λ h.
+    whole (refuse 4) (bodyValue (drop (at + h) s)) (λ b.
+    check (refuse 5) (eqb (at + h + b) (length s))
+    (byEntries s (entriesAt heldDepth s at) (bodyEntries s (at + h) (drop (at + h) s)))))
+
+-- 2, 1 and 3 for the size number
+unfoldable pub sizeBy : Natural → Size
+sizeBy Other = Refused 2
+sizeBy Cut = Refused 1
+sizeBy (Is n k) = pick (leb 1 n && leb n maxSize) (Promises n k) (Refused 3)
+
+unfoldable pub sizeOf : Bytes → Size
+sizeOf s = sizeBy (unsigned s)
+
+-- 1 for the bytes that it promises. What follows the frame is cut off: header and body "lie within the size's bytes", and nothing more is judged
+unfoldable pub bySize : Bytes → Size → FrameAnswer
+bySize s (Refused n) = refuse n
+bySize s (Promises n k) = check (refuse 1) (leb (k + n) (length s)) (inFrame (take (k + n) s) k)
+
+unfoldable pub frameRead : Bytes → FrameAnswer
+frameRead s = bySize s (sizeOf s)

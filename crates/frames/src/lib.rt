@@ -1,0 +1,68 @@
+// The record of a frame and what the calls on frames answer, for Rust and C alike; their definitions stand in specs/.
+ghost use mathlib.Core.Path.{_≡_};
+
+// A number that a frame may leave out.
+#[repr(C)]
+pub struct OptionalNumber {
+    pub present: bool,
+    pub value: u64,
+}
+
+// The place of a value that a frame may leave out: exactly its encoding, counted from the first lent byte.
+#[repr(C)]
+pub struct Place {
+    pub present: bool,
+    pub start: usize,
+    pub length: usize,
+}
+
+// What a frame holds under its known keys.
+#[repr(C)]
+pub struct Frame {
+    pub code: u64,
+    pub sync: OptionalNumber,
+    pub schema_version: OptionalNumber,
+    pub space: OptionalNumber,
+    pub index: OptionalNumber,
+    pub limit: OptionalNumber,
+    pub offset: OptionalNumber,
+    pub iterator: OptionalNumber,
+    pub index_base: OptionalNumber,
+    pub key: Place,
+    pub tuple: Place,
+    pub function: Place,
+    pub user: Place,
+    pub expression: Place,
+    pub ops: Place,
+    pub data: Place,
+    pub error: Place,
+}
+
+// What reading a frame answers: 0 with its length and record, or a refusal's number with length 0 and an empty record.
+#[repr(C)]
+pub struct FrameAnswer {
+    pub number: u32,
+    pub length: usize,
+    pub frame: Frame,
+}
+
+// What writing a frame answers: 0 with the length written, or a refusal's number with length 0.
+#[repr(C)]
+pub struct Written {
+    pub number: u32,
+    pub length: usize,
+}
+
+// What a size number says: so many bytes are promised from a place on, or the number of its refusal.
+pub enum Size {
+    Promises(usize, usize),
+    Refused(u32),
+}
+
+// What a known key must hold.
+pub enum Rule {
+    AtMost(u64),
+    Array,
+    String,
+    Anything,
+}
