@@ -1,5 +1,6 @@
 // Worked cases from lines of text on standard input, a line of output for each, which the gate
 // compares with what a second implementation says. A line begins with the call that it is for.
+mod frame_cases;
 mod text;
 mod value_cases;
 
@@ -25,6 +26,14 @@ fn print_value(line: &[u8]) {
     value_cases::print_value(&bytes[0..n]);
 }
 
+// f: a frame read.
+fn print_frame(line: &[u8]) {
+    let mut bytes = [0u8; 61440];
+    let written = field(line, 0);
+    let n = text::expand(written, &mut bytes);
+    frame_cases::print_read(&bytes[0..n]);
+}
+
 // A letter for the call, a tab, and its fields.
 fn print_line(line: &[u8]) {
     if line.len() < 2 {
@@ -34,6 +43,7 @@ fn print_line(line: &[u8]) {
     let fields = &line[2..];
     match call {
         b'v' => print_value(fields),
+        b'f' => print_frame(fields),
         _ => text::print(b"?\n"),
     }
 }
@@ -49,7 +59,7 @@ fn print_lines(input: &[u8]) {
 }
 
 fn main() {
-    let mut input = [0u8; 65536];
+    let mut input = [0u8; 524288];
     let n = io::read_full(0, &mut input);
     value_cases::print_first_bytes();
     print_lines(&input[0..n]);

@@ -13,6 +13,10 @@ pub(crate) fn print_number(n: usize) {
     io::print_decimal(STDOUT_FILENO, n as u64);
 }
 
+pub(crate) fn print_plain(n: usize) {
+    io::print_decimal(STDOUT_FILENO, n as u64);
+}
+
 // The place of the first `b` from `at` on, or the end.
 pub(crate) fn find(s: &[u8], at: usize, b: u8) -> usize
     requires { ⌜ at ≤ length (now s) ⌝ }

@@ -99,7 +99,10 @@ fn list_next(input: &[u8], at: usize, number: u64, out: &mut [u8], to: usize) ->
     let frame = answer.frame;
     let length = answer.length;
     let to = write_frame(out, to, number, frame, length);
-    Listed { to, next: at + length }
+    Listed {
+        to,
+        next: at + length,
+    }
 }
 
 fn flush(out: &[u8], n: usize) {
