@@ -1,5 +1,5 @@
 -- "Reading what was written gives the same numbers and the same bytes per view. A frame the writer made is written again identically."
-use Prim.Native.Nat.{ℕ, suc, _≤_}
+use Prim.Native.Nat.{ℕ, _≤_}
 use mathlib.Core.Path.{_≡_}
 use mathlib.Core.List.{_++_}
 use lib.ListN.{length, take, drop}
