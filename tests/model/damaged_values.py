@@ -1,9 +1,4 @@
-#!/usr/bin/env python3
-"""Lines of damaged and border values for the program `vectors`: bytes (hex), what they are, whose they are."""
-
-
-def out(b, what):
-    print("%s\t%s\t%s" % (bytes(b).hex(), what, "ours"))
+"""Damaged and border values for the program `cases`: bytes, and what they are."""
 
 
 LONG = [
@@ -20,28 +15,31 @@ LONG = [
     (b"\xde\x00\x01\x01\x02", "map 16"),
     (b"\xdf\x00\x00\x00\x01\x01\x02", "map 32"),
 ]
-for b in range(256):
-    out([b] + [0] * 20, "first byte %02x and zeros" % b)
-    out([b], "first byte %02x alone" % b)
-for whole, name in LONG:
-    for n in range(len(whole)):
-        out(whole[:n], "%s cut to %d" % (name, n))
-    out(whole + b"\xc1", "%s, c1 after it" % name)
-for whole, name in LONG[8:]:
-    for n in range(1, len(whole)):
-        out(whole[:n] + b"\xc1" + whole[n + 1 :], "%s, c1 at %d" % (name, n))
-for d in (15, 16, 17, 18):
-    out([0x91] * (d - 1) + [0x90], "arrays %d deep" % d)
-    out([0x81, 0x00] * (d - 1) + [0x80], "maps %d deep" % d)
-    out([0x91] * (d - 1) + [0xDC], "arrays %d deep, the last cut" % d)
-    out([0x91] * (d - 1) + [0xC1], "arrays %d deep, then c1" % (d - 1))
-out([0xDD, 0xFF, 0xFF, 0xFF, 0xFF], "array of 2^32 - 1, nothing after it")
-out([0xDD, 0xFF, 0xFF, 0xFF, 0xFF] + [0x01] * 9, "array of 2^32 - 1, nine values")
-out([0xDF, 0xFF, 0xFF, 0xFF, 0xFF] + [0x01] * 9, "map of 2^32 - 1, nine values")
-out([0xDB, 0xFF, 0xFF, 0xFF, 0xFF] + [0x61] * 9, "str 32 of 2^32 - 1, nine bytes")
-out([0xC9, 0xFF, 0xFF, 0xFF, 0xFF, 0x01], "ext 32 of 2^32 - 1, its type")
-out([0xDD, 0xFF, 0xFF, 0xFF, 0xFF] * 17, "arrays of 2^32 - 1, 17 deep")
-out([0xDD, 0x00, 0x00, 0x00, 0x01, 0x07], "array 32 of one value")
-out([0xDC, 0x00, 0x0F] + [0x01] * 15, "array 16 of fifteen values")
-out([0x92, 0x90], "an empty array, then the end")
-out([], "no bytes")
+
+
+def cases():
+    for b in range(256):
+        yield ([b] + [0] * 20, "first byte %02x and zeros" % b)
+        yield ([b], "first byte %02x alone" % b)
+    for whole, name in LONG:
+        for n in range(len(whole)):
+            yield (whole[:n], "%s cut to %d" % (name, n))
+        yield (whole + b"\xc1", "%s, c1 after it" % name)
+    for whole, name in LONG[8:]:
+        for n in range(1, len(whole)):
+            yield (whole[:n] + b"\xc1" + whole[n + 1 :], "%s, c1 at %d" % (name, n))
+    for d in (15, 16, 17, 18):
+        yield ([0x91] * (d - 1) + [0x90], "arrays %d deep" % d)
+        yield ([0x81, 0x00] * (d - 1) + [0x80], "maps %d deep" % d)
+        yield ([0x91] * (d - 1) + [0xDC], "arrays %d deep, the last cut" % d)
+        yield ([0x91] * (d - 1) + [0xC1], "arrays %d deep, then c1" % (d - 1))
+    yield ([0xDD, 0xFF, 0xFF, 0xFF, 0xFF], "array of 2^32 - 1, nothing after it")
+    yield ([0xDD, 0xFF, 0xFF, 0xFF, 0xFF] + [0x01] * 9, "array of 2^32 - 1, nine values")
+    yield ([0xDF, 0xFF, 0xFF, 0xFF, 0xFF] + [0x01] * 9, "map of 2^32 - 1, nine values")
+    yield ([0xDB, 0xFF, 0xFF, 0xFF, 0xFF] + [0x61] * 9, "str 32 of 2^32 - 1, nine bytes")
+    yield ([0xC9, 0xFF, 0xFF, 0xFF, 0xFF, 0x01], "ext 32 of 2^32 - 1, its type")
+    yield ([0xDD, 0xFF, 0xFF, 0xFF, 0xFF] * 17, "arrays of 2^32 - 1, 17 deep")
+    yield ([0xDD, 0x00, 0x00, 0x00, 0x01, 0x07], "array 32 of one value")
+    yield ([0xDC, 0x00, 0x0F] + [0x01] * 15, "array 16 of fifteen values")
+    yield ([0x92, 0x90], "an empty array, then the end")
+    yield ([], "no bytes")

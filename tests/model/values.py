@@ -1,11 +1,9 @@
 #!/usr/bin/env python3
 """A second reader of MessagePack values, written from the MessagePack specification and document 01.
 
-  values.py < crates/vectors/stdin     print what the program `vectors` must print
-  values.py check < crates/vectors/stdin
-                                       compare what is accepted with the library python3-msgpack as well
-
 It shares nothing with the Rattle code but the form of the printed lines.
+
+  values.py < crates/cases/stdin     compare what is accepted with the library python3-msgpack as well
 """
 import struct
 import sys
@@ -118,6 +116,12 @@ def meaning(s, end):
     return "%s\t0\t%d" % (name, end)
 
 
+def form_line(b):
+    """The printed line of a first byte."""
+    name, width, fixed = first(b)
+    return "%02x\t%s" % (b, name) + ("" if name == "unused" else "\t%d\t%d" % (width, fixed))
+
+
 def line(text):
     s = bytes.fromhex(text)
     try:
@@ -156,15 +160,8 @@ def check(text):
 
 
 def main():
-    texts = [l.split("\t")[0].strip() for l in sys.stdin.read().split("\n") if l]
-    if sys.argv[1:] == ["check"]:
-        print("%d of %d values agree with python3-msgpack" % (sum(check(t) for t in texts), len(texts)))
-        return
-    for b in range(256):
-        name, width, fixed = first(b)
-        print("%02x\t%s" % (b, name) + ("" if name == "unused" else "\t%d\t%d" % (width, fixed)))
-    for t in texts:
-        print(line(t))
+    texts = [l.split("\t")[1] for l in sys.stdin.read().split("\n") if l.startswith("v\t")]
+    print("%d of %d values agree with python3-msgpack" % (sum(check(t) for t in texts), len(texts)))
 
 
 if __name__ == "__main__":

@@ -1,12 +1,12 @@
 -- What was written is read back, whatever follows it. Assumes nothing.
-use mathlib.Core.Path.{_≡_, refl, sym, ap, _∙_}
-use mathlib.Core.List.{List, [], _∷_, _++_, append-assoc}
-use Prim.Native.Nat.{ℕ, zero, suc, _+_, _-_, _*_, _/_, _^_, _<_, _≤_}
+use mathlib.Core.Path.{_≡_, refl, ap, _∙_}
+use mathlib.Core.List.{List, _∷_, _++_, append-assoc}
+use Prim.Native.Nat.{ℕ, suc, _+_, _-_, _*_, _/_, _^_, _<_, _≤_}
 use native.Mathlib.Nat.{zero-add, add-zero}
 use native.Mathlib.Numerals.{one-add}
 use native.Mathlib.Omega.{arith}
 use borrow.Author.Tests.{le-leb, le-ltb}
-use lib.ListN.{length, take, drop, length-append}
+use lib.ListN.{length, take, length-append}
 use lib.Seq.{take-at, drop-at, take-append-seam, drop-append-seam}
 use Rattle.first_bytes.specs.Bytes.{Bytes}
 use Rattle.first_bytes.specs.FirstByte.{formOf, sameKind}
@@ -25,7 +25,7 @@ use Rattle.values.proofs.Laws.{value-one, shift-shift}
 use Rattle.values.proofs.Local.{value-good}
 use Rattle.values.proofs.Pieces.{items-joined}
 use Rattle.scalars.specs.Integer.{dueIn, due, naturalOf, unsignedBy, unsigned, twosComplement, signedOf, signedBy, signed, adding, integer}
-use Rattle.scalars.specs.Start.{scalarOf, stringBy, arrayBy, mapBy}
+use Rattle.scalars.specs.Start.{stringBy, arrayBy, mapBy}
 use Rattle.scalars.specs.Header.{counted, header}
 use Rattle.scalars.specs.declared.Start.{Start}
 use Rattle.scalars.specs.declared.Start.the-variants.{Here}
@@ -36,7 +36,7 @@ use Rattle.scalars.specs.declared.Integer.the-variants.{Is as IsInt}
 use Rattle.scalars.specs.declared.Header.the-variants.{Is as IsHeader}
 use Rattle.writing.specs.Forms.{bigEndian, tagged, unsignedForm, negativeForm, stringHeader, countHeader, arrayHeader, mapHeader}
 use Rattle.writing.proofs.Choice.{by-ltb}
-use Rattle.writing.proofs.Lengths.{length-bigEndian, length-tagged}
+use Rattle.writing.proofs.Lengths.{length-bigEndian}
 use Rattle.read_back.specs.Claims.{integerForm, InRange, stringForm, NumbersReadBack, StringsReadBack, ContainersReadBack}
 use Rattle.read_back.proofs.Digits.{number-bigEndian}
 

@@ -1,9 +1,9 @@
 -- No form that is read as a number, a length or a count is shorter than the form that is written: a larger number has no shorter form,
 -- and the greatest number that a first byte can say has one that is no longer; that is one test over all first bytes. Assumes nothing.
-use mathlib.Core.Path.{_≡_, refl, sym, ap, subst, _∙_}
+use mathlib.Core.Path.{_≡_, refl}
 use mathlib.Core.Bool.{Bool, true, false}
 use mathlib.Core.List.{[], _∷_}
-use Prim.Native.Nat.{ℕ, zero, suc, _+_, _-_, _*_, _^_, _<_, _≤_}
+use Prim.Native.Nat.{ℕ, zero, suc, _+_, _-_, _*_, _^_, _≤_}
 use native.Mathlib.Omega.{arith}
 use borrow.Author.Tests.{leb-true}
 use lib.Dec.{T, leb, leb→le}
@@ -25,7 +25,7 @@ use Rattle.scalars.specs.declared.Due.the-variants.{More, Cut as CutDue, Other 
 use Rattle.scalars.specs.declared.Natural.{Natural}
 use Rattle.scalars.specs.declared.Natural.the-variants.{Is, Cut, Other}
 use Rattle.scalars.specs.declared.Int.{Int}
-use Rattle.scalars.specs.declared.Int.the-variants.{FromZero, BelowZero}
+use Rattle.scalars.specs.declared.Int.the-variants.{FromZero}
 use Rattle.scalars.specs.declared.Integer.the-variants.{Is as IsInt}
 use Rattle.scalars.specs.declared.Header.the-variants.{Is as IsHeader}
 use Rattle.writing.specs.Forms.{bigEndian, unsignedForm, negativeForm, stringHeader, arrayHeader, mapHeader}

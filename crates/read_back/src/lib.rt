@@ -1,10 +1,5 @@
 // What is written is read back, and no shorter form is read as the same: theorems as contracts, so that the verdict names them.
-ghost use Rattle.read_back.specs.Claims.{
-  NumbersReadBack,
-  StringsReadBack,
-  ContainersReadBack,
-  Shortest,
-};
+ghost use Rattle.read_back.specs.Claims.{NumbersReadBack, StringsReadBack, ContainersReadBack, Shortest};
 
 // Every number from -2^63 to 2^64 - 1, whatever follows it.
 pub fn numbers_read_back()

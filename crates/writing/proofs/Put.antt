@@ -1,6 +1,6 @@
 -- Pieces written one after the other into a lent buffer. Assumes nothing.
 use mathlib.Core.Path.{_≡_, refl, sym, ap, _∙_}
-use mathlib.Core.List.{[], _∷_, _++_, append-assoc, append-nil}
+use mathlib.Core.List.{[], _++_, append-assoc, append-nil}
 use mathlib.Core.Logic.{⊎-elim}
 use Prim.Native.Nat.{ℕ, _+_, _-_, _<_, _≤_}
 use native.Mathlib.Nat.{add-zero}
@@ -91,8 +91,8 @@ pub join : {old cur new p q : Bytes} {at a b : ℕ} → Wrote old at p cur a →
 join {old} {cur} {new} {p} {q} {at} {a} {b} v w =
     let l : length (p ++ q) ≡ length p + length q = length-append p q in
     let e : at + length (p ++ q) ≡ a + length q = omega arith in
-    laid old at (p ++ q) (omega arith) (omega arith)
-    (w .is ∙ rw (e, through v, append-assoc, append-assoc, ← drop-drop, ← drop-drop, after v))
+    let f : drop (a + length q) cur ≡ drop (a + length q) old = sym (drop-drop (length q) a cur) ∙ ap (drop (length q)) (after v) ∙ drop-drop (length q) a old in
+    laid old at (p ++ q) (omega arith) (omega arith) (w .is ∙ rw (e, through v, f) (simp append-assoc))
 
 module _ (at : ℕ) (p old : Bytes) where
   -- a rule of every write, with room and without

@@ -1,5 +1,5 @@
 -- A turn of each loop that writes. Assumes nothing.
-use mathlib.Core.Path.{_≡_, refl, sym, ap, _∙_}
+use mathlib.Core.Path.{_≡_, ap}
 use mathlib.Core.List.{[], _∷_, _++_, append-assoc}
 use Prim.Native.Nat.{ℕ, zero, suc, _+_, _-_, _<_, _/_, _%_}
 use native.Mathlib.Omega.{arith}
@@ -26,12 +26,12 @@ number-turn (suc j) high l h k =
     let f : j + 1 ≡ suc j = omega arith in
     rw (e, f, drop-store l (suc j) (high % 256)) (simp append-assoc)
 
+-- and the first byte before it comes last
+pub tag-store : (l q : Bytes) (tag : ℕ) → 0 < length l → drop 1 l ≡ q → set l 0 tag ≡ tag ∷ q
+tag-store [] q tag h e = absurd (omega arith)
+tag-store (b ∷ l) q tag h e = ap (_∷_ tag) e
+
 -- a copy's loop goes from the first byte to the last
 pub copy-turn : (d s l : Bytes) (i : ℕ) → i < length s → i < length d → l ≡ take i s ++ drop i d
     → set l i (getD s i 0) ≡ take (i + 1) s ++ drop (i + 1) d
 copy-turn d s l i h k e = rw (e, add-one) (simp zero-add at (paste-suc d 0 s i 0 (rw zero-add k) h))
-
--- and its first byte last
-pub tag-store : (l q : Bytes) (tag : ℕ) → 0 < length l → drop 1 l ≡ q → set l 0 tag ≡ tag ∷ q
-tag-store [] q tag h e = absurd (omega arith)
-tag-store (b ∷ l) q tag h e = ap (_∷_ tag) e

@@ -3,15 +3,7 @@ ghost use mathlib.Core.Path.{_≡_};
 ghost use mathlib.Core.List.{_++_};
 ghost use Prim.Native.Nat.{_+_, _^_, _<_, _≤_};
 ghost use lib.ListN.{length, drop};
-ghost use Rattle.writing.specs.Forms.{
-  tagged,
-  unsignedForm,
-  negativeForm,
-  stringHeader,
-  countHeader,
-  arrayHeader,
-  mapHeader,
-};
+ghost use Rattle.writing.specs.Forms.{tagged, unsignedForm, negativeForm, stringHeader, countHeader, arrayHeader, mapHeader};
 ghost use Rattle.writing.specs.Put.{put, next};
 
 // A first byte, a number, and how many of its low bytes follow.

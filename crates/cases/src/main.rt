@@ -1,0 +1,66 @@
+// Worked cases from lines of text on standard input, a line of output for each, which the gate
+// compares with what a second implementation says. A line begins with the call that it is for.
+mod frame_cases;
+mod text;
+mod value_cases;
+
+use text::find;
+ghost use Prim.Native.Nat.{_≤_};
+ghost use lib.ListN.{length};
+
+// The field of a line from `at` to the next tab.
+fn field(line: &[u8], at: usize) -> &[u8]
+    requires { ⌜ at ≤ length (now line) ⌝ }
+    ensures { λ r. ⌜ length (now r) ≤ length (now (line .entry)) ⌝ }
+{
+    let end = find(line, at, b'\t');
+    &line[at..end]
+}
+
+// v: a value read alone.
+fn print_value(line: &[u8]) {
+    let mut bytes = [0u8; 1024];
+    let written = field(line, 0);
+    text::print(written);
+    let n = text::expand(written, &mut bytes);
+    value_cases::print_value(&bytes[0..n]);
+}
+
+// f: a frame read.
+fn print_frame(line: &[u8]) {
+    let mut bytes = [0u8; 61440];
+    let written = field(line, 0);
+    let n = text::expand(written, &mut bytes);
+    frame_cases::print_read(&bytes[0..n]);
+}
+
+// A letter for the call, a tab, and its fields.
+fn print_line(line: &[u8]) {
+    if line.len() < 2 {
+        return;
+    }
+    let call = line[0];
+    let fields = &line[2..];
+    match call {
+        b'v' => print_value(fields),
+        b'f' => print_frame(fields),
+        _ => text::print(b"?\n"),
+    }
+}
+
+fn print_lines(input: &[u8]) {
+    let mut at: usize = 0;
+    while at < input.len() {
+        let end = find(input, at, b'\n');
+        let line = &input[at..end];
+        print_line(line);
+        at = end + 1;
+    }
+}
+
+fn main() {
+    let mut input = [0u8; 524288];
+    let n = io::read_full(0, &mut input);
+    value_cases::print_first_bytes();
+    print_lines(&input[0..n]);
+}

@@ -1,0 +1,133 @@
+-- A tuple's bytes and its fields. Assumes nothing.
+use mathlib.Core.Path.{_≡_, refl, ap, _∙_, subst}
+use mathlib.Core.Bool.{Bool, true, false}
+use mathlib.Core.List.{[], _∷_, _++_, append-nil}
+use mathlib.Core.Logic.{_⊎_, inl, inr, ⊎-elim}
+use mathlib.Core.Option.{some}
+use Prim.Native.Nat.{ℕ, suc, _+_, _-_, _*_, _^_, _<_, _≤_}
+use native.Mathlib.Omega.{arith}
+use borrow.Author.Tests.{leb-true, le-leb, eqb-true, eq-eqb}
+use lib.Dec.{leb, eqb}
+use lib.ListN.{length, take, drop, length-drop}
+use lib.Pow.{pow-pos}
+use lib.Seq.{take-length, drop-append-seam}
+use Rattle.first_bytes.specs.Bytes.{Bytes, pick}
+use Rattle.first_bytes.specs.FirstByte.{formOf}
+use Rattle.first_bytes.specs.declared.Form.{Form}
+use Rattle.values.specs.Number.{number}
+use Rattle.values.specs.Value.{value, items}
+use Rattle.values.specs.Pieces.{pieces, joined, Each}
+use Rattle.values.specs.declared.Read.{Read}
+use Rattle.values.specs.declared.Read.the-variants.{Whole, Broken}
+use Rattle.values.proofs.Local.{value-good}
+use Rattle.values.proofs.Pieces.{pieces-joined, items-joined}
+use Rattle.scalars.specs.Header.{counted, header}
+use Rattle.scalars.specs.Start.{arrayBy}
+use Rattle.scalars.specs.declared.Start.{Start}
+use Rattle.scalars.specs.declared.Start.the-variants.{Here, Elsewhere}
+use Rattle.scalars.specs.declared.Header.{Header}
+use Rattle.scalars.specs.declared.Header.the-variants.{Is, Other}
+use Rattle.writing.specs.Forms.{bigEndian, arrayHeader}
+use Rattle.read_back.proofs.Back.{array-header-back}
+use Rattle.writing.proofs.Choice.{by-leb}
+use Rattle.writing.proofs.Lengths.{array-mono}
+use Rattle.tuples.specs.Limits.{maxFields, maxTuple, fieldDepth}
+use Rattle.tuples.specs.Tuple.{Fields, plain, filling, values, fieldsBy, fieldsOf}
+use Rattle.tuples.proofs.Cases.{impossible, guarded}
+use Rattle.tuples.proofs.Whole.{pieces-each}
+use Rattle.tuples.proofs.Legal.{Legal, plain-length}
+
+-- ---- no array's header is shorter than the one that is written
+
+-- 16 fields and more take two count bytes at least
+abbrev Enough : Start → Type 0
+Enough (Here w f) = ((w ≡ 0) × (f < 16)) ⊎ (2 ≤ w)
+Enough Elsewhere = Unit {0}
+
+abbrev Wide : Form → Type 0
+Wide F = Enough (arrayBy F)
+
+past : (P : Form → Type 0) (b k : ℕ) {x y : Form} → P x → P y → P (pick (leb b k) x y)
+past P b k p q = by-leb P b k (λ _. p) (λ _. q)
+
+array-wide : (b : ℕ) → Wide (formOf b)
+unfolding formOf
+array-wide b =
+    past Wide b 0x7f tt (past Wide b 0x8f tt (by-leb Wide b 0x9f (λ h. inl (refl, omega arith))
+    (λ _. (past Wide b 0xbf tt (past Wide b 0xc0 tt (past Wide b 0xc1 tt (past Wide b 0xc3 tt (past Wide b 0xc6 tt (past Wide b 0xc9 tt (past Wide b 0xca tt
+    (past Wide b 0xcb tt (past Wide b 0xcf tt (past Wide b 0xd3 tt (past Wide b 0xd8 tt (past Wide b 0xdb tt (past Wide b 0xdd (inr two) (past Wide b 0xdf tt tt)))))))))))))))))
+  where
+    two : 2 ≤ 2 * 2 ^ (b - 0xdc)
+    two = let h : 0 < 2 ^ (b - 0xdc) = pow-pos (b - 0xdc) in omega arith
+
+pub array-short : (t : Bytes) (n e : ℕ) → n < 2 ^ 16 → header arrayBy t ≡ Is n e → (length (arrayHeader n) ≤ e) × (e ≤ length t)
+unfolding header counted number arrayHeader bigEndian
+array-short [] n e l h = impossible (cc)
+array-short (b ∷ s) n e l h = by-start (arrayBy (formOf b)) (array-wide b) h
+  where
+    by-count : (w f : ℕ) → Enough (Here w f) → (t : Bool) → leb w (length s) ≡ t → pick t (Is (number (take w s) + f) (1 + w)) Other ≡ Is n e
+        → (length (arrayHeader n) ≤ e) × (e ≤ suc (length s))
+    by-count w f r true q h =
+        let k = leb-true w (length s) q in
+        let p : 1 + w ≡ e = cc in
+        let x : number (take w s) + f ≡ n = cc in
+        let few = array-mono n 15 in
+        let all = array-mono n 65535 (omega arith) in
+        (⊎-elim (λ z. let o : number (take w s) ≡ 0 = rw (z .0) in let m = few (omega arith) in omega arith) (λ z. omega arith) r, omega arith)
+    by-count w f r false q h = impossible (cc)
+
+    by-start : (x : Start) → Enough x → counted x s ≡ Is n e → (length (arrayHeader n) ≤ e) × (e ≤ suc (length s))
+    by-start (Here w f) r h = by-count w f r (leb w (length s)) refl h
+    by-start Elsewhere r h = impossible (cc)
+
+-- ---- what `fieldsOf` says
+
+-- n values that fill s
+record Filled (n : ℕ) (s : Bytes) (fs : Fields) : Type 0 where
+  count : length fs ≡ n
+  join : joined fs ≡ s
+  whole : Each (value fieldDepth) fs
+
+values-filled : (n : ℕ) (s : Bytes) (fs : Fields) → values n s ≡ some fs → Filled n s fs
+unfolding values filling
+values-filled n s fs h = go (items (value fieldDepth) n s) refl h
+  where
+    go : (r : Read) → items (value fieldDepth) n s ≡ r → filling r (length s) (pieces (value fieldDepth) n s) ≡ some fs → Filled n s fs
+    go (Broken p) e h = impossible (cc)
+    go (Whole k) e h =
+        let (t, q) = guarded (eqb k (length s)) (some (pieces (value fieldDepth) n s)) fs h in
+        let p : pieces (value fieldDepth) n s ≡ fs = cc in
+        let l : k ≡ length s = eqb-true k (length s) t in
+        let (c, j) = pieces-joined (value fieldDepth) n s k e in
+        subst (Filled n s) p (record { count = c; join = j ∙ (rw l (take-length s)); whole = pieces-each fieldDepth n s k e })
+
+pub fields-legal : (t : Bytes) (fs : Fields) → fieldsOf t ≡ some fs → Legal fs
+unfolding fieldsOf fieldsBy
+fields-legal t fs h =
+    let (b, e) = guarded (leb (length t) maxTuple) (fieldsBy (header arrayBy t) t) fs h in
+    go (leb-true _ _ b) (header arrayBy t) refl e
+  where
+    go : length t ≤ maxTuple → (g : Header) → header arrayBy t ≡ g → fieldsBy g t ≡ some fs → Legal fs
+    go l Other q e = impossible (cc)
+    go l (Is n k) q e =
+        let (b, v) = guarded (leb n maxFields) (values n (drop k t)) fs e in
+        let f = values-filled n (drop k t) fs v in
+        let few : n ≤ maxFields = leb-true _ _ b in
+        let (s, i) = array-short t n k (omega arith) q in
+        let j : length (joined fs) ≡ length t - k = ap length (f .join) ∙ length-drop k t in
+        let p = plain-length fs in
+        let c : length (arrayHeader (length fs)) ≡ length (arrayHeader n) = ap (λ (m : ℕ). length (arrayHeader m)) (f .count) in
+        record { fit = record { few = rw (f .count) few; short = omega arith }; whole = f .whole }
+
+-- ---- a plain form is read as its fields
+
+pub read-plain : (fs : Fields) → Legal fs → fieldsOf (plain fs) ≡ some fs
+unfolding fieldsOf fieldsBy values filling
+read-plain fs g =
+    let h : header arrayBy (plain fs) ≡ Is (length fs) (length (arrayHeader (length fs))) = unfold plain in array-header-back (length fs) (joined fs) (omega arith) in
+    let d : drop (length (arrayHeader (length fs))) (plain fs) ≡ joined fs = unfold plain in drop-append-seam (arrayHeader (length fs)) (joined fs) in
+    let (i, p) = items-joined (value fieldDepth) (value-good fieldDepth) (g .whole) [] in
+    rw (le-leb _ _ (g .fit .short), h) (rw (le-leb _ _ (g .fit .few), d) (filled i p))
+  where
+    filled : items (value fieldDepth) (length fs) (joined fs ++ []) ≡ Whole (length (joined fs)) → pieces (value fieldDepth) (length fs) (joined fs ++ []) ≡ fs → values (length fs) (joined fs) ≡ some fs
+    filled i p = rw (rw append-nil at i, rw append-nil at p, eq-eqb (length (joined fs)) (length (joined fs)) refl)

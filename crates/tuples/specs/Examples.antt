@@ -1,0 +1,186 @@
+-- Worked cases, computed: 01's examples marked (P), and one for each rule beside them.
+use Prim.Native.Nat.{ℕ, _-_}
+use mathlib.Core.Path.{_≡_, refl}
+use mathlib.Core.List.{List, [], _∷_, _++_, map}
+use mathlib.Core.Option.{Option, none, some}
+use lib.ListN.{length, replicate}
+use Rattle.first_bytes.specs.Bytes.{Bytes}
+use Rattle.first_bytes.specs.FirstByte.{formOf, sameKind}
+use Rattle.values.specs.Number.{number}
+use Rattle.values.specs.Value.{payload, sized, items, byForm, one, tooDeep, container, value}
+use Rattle.values.specs.Pieces.{pieces, joined}
+use Rattle.scalars.specs.Integer.{dueIn, due, naturalOf, unsignedBy, unsigned, twosComplement, signedOf, signedBy, signed, adding, integer}
+use Rattle.scalars.specs.Header.{counted, header}
+use Rattle.writing.specs.Forms.{bigEndian, unsignedForm, negativeForm, stringHeader, arrayHeader}
+use Rattle.tuples.specs.Tuple.{plain, filling, values, fieldsBy, fieldsOf}
+use Rattle.tuples.specs.Decoding.{onGot, then, made, nothing, valueFrom, anyValue, integerFrom, anyInteger, less, floor, atLeast, position, stringFrom, string, countFrom, count, mark}
+use Rattle.tuples.specs.Operation.{three, five, actionOf, operation, before, andMore, operations, listBy, operationsOf}
+use Rattle.tuples.specs.Edit.{asℤ, ranged, spliced, became, suited, altered, editAt, fieldAt, planOf, plans, fits, limited, perform, step, run, operationBytes, restored, inverse, undoOf}
+use Rattle.tuples.specs.Call.{numberOf, judged, onRun, updateOf, limitedList, undoListOf, update, undo, Result, refusing, writing, delivered, updateCall, undoCall}
+use Rattle.tuples.specs.Sequence.{Event, change, back, Shown, start, plainBy, plainOf, wrote, byCalls, byMemory, entered, taken, takenTop, after, callTop, callOf, listing, undoneOf, trace}
+
+-- the buffer that each call is lent, and what its caller sees of w written into it, and of a refusal
+abbrev pub room : Bytes
+room = replicate 16 0xee
+
+abbrev pub accepted : Bytes → Result
+accepted w = record { number = 0; operation = 0; length = length w; buffer = w ++ replicate (16 - length w) 0xee }
+
+abbrev pub refused : ℕ → ℕ → Result
+refused k i = record { number = k; operation = i; length = 0; buffer = room }
+
+-- inputs, and what the update call and the undo call show of them
+pub record Case : Type 0 where
+  pub tuple : Bytes
+  pub list : Bytes
+  pub base : ℕ
+  pub updates : Result
+  pub undoes : Result
+
+abbrev pub case : Bytes → Bytes → ℕ → Bytes → Bytes → Case
+case t l b w u = record { tuple = t; list = l; base = b; updates = accepted w; undoes = accepted u }
+
+abbrev pub refusedCase : Bytes → Bytes → ℕ → ℕ → ℕ → Case
+refusedCase t l b k i = record { tuple = t; list = l; base = b; updates = refused k i; undoes = refused k i }
+
+-- the case of the same inputs that the calls make
+abbrev pub computed : Case → Case
+computed c =
+    record {
+      tuple = c .tuple;
+      list = c .list;
+      base = c .base;
+      updates = updateCall (c .tuple) (c .list) (c .base) room;
+      undoes = undoCall (c .tuple) (c .list) (c .base) room;
+    }
+
+-- 01, "From the yard: known examples", those marked (P)
+abbrev pub known : List Case
+known =
+    case (0x93 ∷ 0x05 ∷ 0xa2 ∷ 0x61 ∷ 0x62 ∷ 0xc3 ∷ []) (0x91 ∷ 0x93 ∷ 0xa1 ∷ 0x5e ∷ 0x00 ∷ 0x01 ∷ []) 0
+    (0x93 ∷ 0x04 ∷ 0xa2 ∷ 0x61 ∷ 0x62 ∷ 0xc3 ∷ []) (0x91 ∷ 0x93 ∷ 0xa1 ∷ 0x3d ∷ 0x00 ∷ 0x05 ∷ [])
+    ∷ case (0x91 ∷ 0xcd ∷ 0x00 ∷ 0x05 ∷ []) (0x91 ∷ 0x93 ∷ 0xa1 ∷ 0x2b ∷ 0x00 ∷ 0x01 ∷ []) 0
+    (0x91 ∷ 0x06 ∷ []) (0x91 ∷ 0x93 ∷ 0xa1 ∷ 0x3d ∷ 0x00 ∷ 0xcd ∷ 0x00 ∷ 0x05 ∷ [])
+    ∷ case (0x93 ∷ 0x01 ∷ 0x02 ∷ 0x03 ∷ []) (0x91 ∷ 0x93 ∷ 0xa1 ∷ 0x23 ∷ 0x01 ∷ 0x05 ∷ []) 0
+    (0x91 ∷ 0x01 ∷ []) (0x92 ∷ 0x93 ∷ 0xa1 ∷ 0x21 ∷ 0x01 ∷ 0x03 ∷ 0x93 ∷ 0xa1 ∷ 0x21 ∷ 0x01 ∷ 0x02 ∷ [])
+    ∷ case (0x91 ∷ 0x01 ∷ []) (0x91 ∷ 0x93 ∷ 0xa1 ∷ 0x3d ∷ 0x01 ∷ 0x09 ∷ []) 0
+    (0x92 ∷ 0x01 ∷ 0x09 ∷ []) (0x91 ∷ 0x93 ∷ 0xa1 ∷ 0x23 ∷ 0x01 ∷ 0x01 ∷ [])
+    ∷ case (0x91 ∷ 0xa3 ∷ 0x61 ∷ 0x62 ∷ 0x63 ∷ []) (0x91 ∷ 0x95 ∷ 0xa1 ∷ 0x3a ∷ 0x00 ∷ 0x01 ∷ 0x01 ∷ 0xa2 ∷ 0x58 ∷ 0x59 ∷ []) 0
+    (0x91 ∷ 0xa4 ∷ 0x61 ∷ 0x58 ∷ 0x59 ∷ 0x63 ∷ []) (0x91 ∷ 0x93 ∷ 0xa1 ∷ 0x3d ∷ 0x00 ∷ 0xa3 ∷ 0x61 ∷ 0x62 ∷ 0x63 ∷ [])
+    ∷ case (0x91 ∷ 0x00 ∷ []) (0x91 ∷ 0x93 ∷ 0xa1 ∷ 0x2d ∷ 0x00 ∷ 0x01 ∷ []) 0
+    (0x91 ∷ 0xff ∷ []) (0x91 ∷ 0x93 ∷ 0xa1 ∷ 0x3d ∷ 0x00 ∷ 0x00 ∷ [])
+    ∷ refusedCase (0x91 ∷ 0xcf ∷ replicate 8 0xff) (0x91 ∷ 0x93 ∷ 0xa1 ∷ 0x2b ∷ 0x00 ∷ 0x01 ∷ []) 0 15 0
+    ∷ case (0x90 ∷ []) (0x90 ∷ []) 0 (0x90 ∷ []) (0x90 ∷ [])
+    ∷ []
+
+abbrev pub longUndo : Bytes
+longUndo = 0xdc ∷ 0x00 ∷ 0x21 ∷ joined (replicate 32 (0x93 ∷ 0xa1 ∷ 0x21 ∷ 0x00 ∷ 0x07 ∷ [])) ++ (0x93 ∷ 0xa1 ∷ 0x23 ∷ 0x00 ∷ 0x21 ∷ [])
+
+-- one for each rule
+abbrev pub rules : List Case
+rules =
+    -- a longer header or number than needed is no error, in tuple, list or operation
+    case (0xdd ∷ 0x00 ∷ 0x00 ∷ 0x00 ∷ 0x01 ∷ 0x07 ∷ []) (0xdc ∷ 0x00 ∷ 0x01 ∷ 0xdd ∷ 0x00 ∷ 0x00 ∷ 0x00 ∷ 0x03 ∷ 0xa1 ∷ 0x2b ∷ 0xd3 ∷ 0x00 ∷ 0x00 ∷ 0x00 ∷ 0x00 ∷ 0x00 ∷ 0x00 ∷ 0x00 ∷ 0x00 ∷ 0xcc ∷ 0x01 ∷ []) 0
+    (0x91 ∷ 0x08 ∷ []) (0x91 ∷ 0x93 ∷ 0xa1 ∷ 0x3d ∷ 0x00 ∷ 0x07 ∷ [])
+    -- each operation meets what the one before left
+    ∷ case (0x93 ∷ 0x01 ∷ 0x02 ∷ 0x03 ∷ []) (0x92 ∷ 0x93 ∷ 0xa1 ∷ 0x23 ∷ 0x00 ∷ 0x01 ∷ 0x93 ∷ 0xa1 ∷ 0x2b ∷ 0x00 ∷ 0x05 ∷ []) 0
+    (0x92 ∷ 0x07 ∷ 0x03 ∷ []) (0x92 ∷ 0x93 ∷ 0xa1 ∷ 0x3d ∷ 0x00 ∷ 0x02 ∷ 0x93 ∷ 0xa1 ∷ 0x21 ∷ 0x00 ∷ 0x01 ∷ [])
+    -- numbers from 1; the undo list counts from 0
+    ∷ case (0x91 ∷ 0x05 ∷ []) (0x91 ∷ 0x93 ∷ 0xa1 ∷ 0x2b ∷ 0x01 ∷ 0x01 ∷ []) 1
+    (0x91 ∷ 0x06 ∷ []) (0x91 ∷ 0x93 ∷ 0xa1 ∷ 0x3d ∷ 0x00 ∷ 0x05 ∷ [])
+    -- a splice past the end, its position from 1
+    ∷ case (0x91 ∷ 0xa2 ∷ 0x61 ∷ 0x62 ∷ []) (0x91 ∷ 0x95 ∷ 0xa1 ∷ 0x3a ∷ 0x01 ∷ 0x02 ∷ 0x09 ∷ 0xa1 ∷ 0x7a ∷ []) 1
+    (0x91 ∷ 0xa2 ∷ 0x61 ∷ 0x7a ∷ []) (0x91 ∷ 0x93 ∷ 0xa1 ∷ 0x3d ∷ 0x00 ∷ 0xa2 ∷ 0x61 ∷ 0x62 ∷ [])
+    ∷ case (0x91 ∷ 0xa2 ∷ 0x61 ∷ 0x62 ∷ []) (0x91 ∷ 0x95 ∷ 0xa1 ∷ 0x3a ∷ 0x00 ∷ 0x09 ∷ 0x00 ∷ 0xa1 ∷ 0x7a ∷ []) 0
+    (0x91 ∷ 0xa3 ∷ 0x61 ∷ 0x62 ∷ 0x7a ∷ []) (0x91 ∷ 0x93 ∷ 0xa1 ∷ 0x3d ∷ 0x00 ∷ 0xa2 ∷ 0x61 ∷ 0x62 ∷ [])
+    -- `&`, `|`, `!`
+    ∷ case (0x91 ∷ 0x07 ∷ []) (0x91 ∷ 0x93 ∷ 0xa1 ∷ 0x26 ∷ 0x00 ∷ 0x05 ∷ []) 0
+    (0x91 ∷ 0x05 ∷ []) (0x91 ∷ 0x93 ∷ 0xa1 ∷ 0x3d ∷ 0x00 ∷ 0x07 ∷ [])
+    ∷ case (0x91 ∷ 0x05 ∷ []) (0x91 ∷ 0x93 ∷ 0xa1 ∷ 0x7c ∷ 0x00 ∷ 0x08 ∷ []) 0
+    (0x91 ∷ 0x0d ∷ []) (0x91 ∷ 0x93 ∷ 0xa1 ∷ 0x3d ∷ 0x00 ∷ 0x05 ∷ [])
+    ∷ case (0x91 ∷ 0x05 ∷ []) (0x91 ∷ 0x93 ∷ 0xa1 ∷ 0x21 ∷ 0x00 ∷ 0xc0 ∷ []) 0
+    (0x92 ∷ 0xc0 ∷ 0x05 ∷ []) (0x91 ∷ 0x93 ∷ 0xa1 ∷ 0x23 ∷ 0x00 ∷ 0x01 ∷ [])
+    -- fields 12 and 13 deep
+    ∷ case (0x91 ∷ replicate 12 0x91 ++ (0x07 ∷ [])) (0x90 ∷ []) 0
+    (0x91 ∷ replicate 12 0x91 ++ (0x07 ∷ [])) (0x90 ∷ [])
+    ∷ refusedCase (0x91 ∷ replicate 13 0x91 ++ (0x07 ∷ [])) (0x90 ∷ []) 0 11 0
+    -- 11: no array, bytes left over, too few, broken
+    ∷ refusedCase [] (0x90 ∷ []) 0 11 0
+    ∷ refusedCase (0x81 ∷ 0x01 ∷ 0x02 ∷ []) (0x90 ∷ []) 0 11 0
+    ∷ refusedCase (0x91 ∷ 0x01 ∷ 0x02 ∷ []) (0x90 ∷ []) 0 11 0
+    ∷ refusedCase (0x92 ∷ 0x01 ∷ []) (0x90 ∷ []) 0 11 0
+    ∷ refusedCase (0x91 ∷ 0xc1 ∷ []) (0x90 ∷ []) 0 11 0
+    ∷ refusedCase (0x91 ∷ 0xc1 ∷ []) (0xc1 ∷ []) 2 11 0
+    -- 12: base, shape, mark, field number, argument, p below 0; also where an operation before it would be refused
+    ∷ refusedCase (0x91 ∷ 0x01 ∷ []) (0x90 ∷ []) 2 12 0
+    ∷ refusedCase (0x91 ∷ 0x01 ∷ []) (0x90 ∷ 0x00 ∷ []) 0 12 0
+    ∷ refusedCase (0x91 ∷ 0x01 ∷ []) (0x91 ∷ 0x92 ∷ 0xa1 ∷ 0x2b ∷ 0x00 ∷ []) 0 12 0
+    ∷ refusedCase (0x91 ∷ 0x01 ∷ []) (0x91 ∷ 0x95 ∷ 0xa1 ∷ 0x2b ∷ 0x00 ∷ 0x01 ∷ 0x01 ∷ 0x01 ∷ []) 0 12 0
+    ∷ refusedCase (0x91 ∷ 0x01 ∷ []) (0x91 ∷ 0x93 ∷ 0xa1 ∷ 0x3a ∷ 0x00 ∷ 0x01 ∷ []) 0 12 0
+    ∷ refusedCase (0x91 ∷ 0x01 ∷ []) (0x91 ∷ 0x93 ∷ 0xd9 ∷ 0x01 ∷ 0x2b ∷ 0x00 ∷ 0x01 ∷ []) 0 12 0
+    ∷ refusedCase (0x91 ∷ 0x01 ∷ []) (0x91 ∷ 0x93 ∷ 0xa1 ∷ 0x2b ∷ 0xc0 ∷ 0x01 ∷ []) 0 12 0
+    ∷ refusedCase (0x91 ∷ 0x01 ∷ []) (0x91 ∷ 0x93 ∷ 0xa1 ∷ 0x2b ∷ 0x00 ∷ 0xc0 ∷ []) 0 12 0
+    ∷ refusedCase (0x91 ∷ 0x01 ∷ []) (0x91 ∷ 0x93 ∷ 0xa1 ∷ 0x26 ∷ 0x00 ∷ 0xff ∷ []) 0 12 0
+    ∷ refusedCase (0x91 ∷ 0x01 ∷ []) (0x91 ∷ 0x93 ∷ 0xa1 ∷ 0x23 ∷ 0x00 ∷ 0x00 ∷ []) 0 12 0
+    ∷ refusedCase (0x91 ∷ 0x01 ∷ []) (0x91 ∷ 0x93 ∷ 0xa1 ∷ 0x3d ∷ 0x00 ∷ replicate 13 0x91 ++ (0x07 ∷ [])) 0 12 0
+    ∷ refusedCase (0x91 ∷ 0xa1 ∷ 0x61 ∷ []) (0x91 ∷ 0x95 ∷ 0xa1 ∷ 0x3a ∷ 0x01 ∷ 0x00 ∷ 0x01 ∷ 0xa0 ∷ []) 1 12 0
+    ∷ refusedCase (0x91 ∷ 0x01 ∷ []) (0x92 ∷ 0x93 ∷ 0xa1 ∷ 0x2b ∷ 0x09 ∷ 0x01 ∷ 0x93 ∷ 0xa1 ∷ 0x2b ∷ 0x09 ∷ 0x90 ∷ []) 0 12 0
+    -- 13, with the operation's index: past n, below 0
+    ∷ refusedCase (0x91 ∷ 0x01 ∷ []) (0x91 ∷ 0x93 ∷ 0xa1 ∷ 0x3d ∷ 0x02 ∷ 0x09 ∷ []) 0 13 0
+    ∷ refusedCase (0x91 ∷ 0x01 ∷ []) (0x92 ∷ 0x93 ∷ 0xa1 ∷ 0x3d ∷ 0x00 ∷ 0x05 ∷ 0x93 ∷ 0xa1 ∷ 0x23 ∷ 0x01 ∷ 0x01 ∷ []) 0 13 1
+    ∷ refusedCase (0x91 ∷ 0x01 ∷ []) (0x91 ∷ 0x93 ∷ 0xa1 ∷ 0x2b ∷ 0xff ∷ 0x01 ∷ []) 0 13 0
+    ∷ refusedCase (0x91 ∷ 0x01 ∷ []) (0x91 ∷ 0x93 ∷ 0xa1 ∷ 0x21 ∷ 0x00 ∷ 0x01 ∷ []) 1 13 0
+    -- 14: type, sign; 15 below the range
+    ∷ refusedCase (0x91 ∷ 0xc3 ∷ []) (0x91 ∷ 0x93 ∷ 0xa1 ∷ 0x2b ∷ 0x00 ∷ 0x01 ∷ []) 0 14 0
+    ∷ refusedCase (0x91 ∷ 0xff ∷ []) (0x91 ∷ 0x93 ∷ 0xa1 ∷ 0x26 ∷ 0x00 ∷ 0x01 ∷ []) 0 14 0
+    ∷ refusedCase (0x91 ∷ 0x01 ∷ []) (0x91 ∷ 0x95 ∷ 0xa1 ∷ 0x3a ∷ 0x00 ∷ 0x00 ∷ 0x01 ∷ 0xa0 ∷ []) 0 14 0
+    ∷ refusedCase (0x91 ∷ 0xd3 ∷ 0x80 ∷ 0x00 ∷ 0x00 ∷ 0x00 ∷ 0x00 ∷ 0x00 ∷ 0x00 ∷ 0x00 ∷ []) (0x91 ∷ 0x93 ∷ 0xa1 ∷ 0x2d ∷ 0x00 ∷ 0x01 ∷ []) 0 15 0
+    -- 64 fields pass, and do not fit the buffer: 18; a 65th: 16
+    ∷ record { tuple = 0xdc ∷ 0x00 ∷ 0x40 ∷ replicate 64 0x07; list = 0x90 ∷ []; base = 0; updates = refused 18 0; undoes = accepted (0x90 ∷ []) }
+    ∷ refusedCase (0xdc ∷ 0x00 ∷ 0x40 ∷ replicate 64 0x07) (0x91 ∷ 0x93 ∷ 0xa1 ∷ 0x21 ∷ 0x00 ∷ 0x01 ∷ []) 0 16 0
+    -- 16 is counted with the shortest header of the fields after the operation: the 16th field makes it two bytes longer
+    ∷ refusedCase (0x9f ∷ replicate 14 0x07 ++ (0xc5 ∷ 0x3f ∷ 0xec ∷ replicate 0x3fec 0x00)) (0x91 ∷ 0x93 ∷ 0xa1 ∷ 0x3d ∷ 0x0f ∷ 0x09 ∷ []) 0 16 0
+    -- 32 fields inserted, then all 33 removed: an undo list of 65 operations
+    ∷ record { tuple = 0x91 ∷ 0x01 ∷ []; list = longUndo; base = 0; updates = accepted (0x90 ∷ []); undoes = refused 17 0 }
+    ∷ []
+
+-- a sequence: an update on a tuple with a long header; one refused; one from base 1; one whose undo list is too long, so
+-- that it does not go in; one with a short buffer; then takings back, with a short buffer, with room, with just enough, on an empty pile
+abbrev pub first : Bytes
+first = 0xdd ∷ 0x00 ∷ 0x00 ∷ 0x00 ∷ 0x01 ∷ 0xcd ∷ 0x00 ∷ 0x05 ∷ []
+
+abbrev pub events : List Event
+events =
+    change (0x91 ∷ 0x93 ∷ 0xa1 ∷ 0x2b ∷ 0x00 ∷ 0x01 ∷ []) 0 room room
+    ∷ change (0x91 ∷ 0x93 ∷ 0xa1 ∷ 0x23 ∷ 0x07 ∷ 0x01 ∷ []) 0 room room
+    ∷ change (0x91 ∷ 0x93 ∷ 0xa1 ∷ 0x21 ∷ 0x01 ∷ 0x2a ∷ []) 1 room []
+    ∷ change longUndo 0 room room
+    ∷ change (0x91 ∷ 0x93 ∷ 0xa1 ∷ 0x23 ∷ 0x00 ∷ 0x01 ∷ []) 0 (0x00 ∷ []) room
+    ∷ back (0x00 ∷ [])
+    ∷ back room
+    ∷ back (replicate 4 0x00)
+    ∷ back room
+    ∷ []
+
+abbrev pub tooShort : Bytes → Result
+tooShort out = record { number = 18; operation = 0; length = 0; buffer = out }
+
+abbrev pub shown : Option Result → Option Result → Bytes → Shown
+shown c u t = record { call = c; undone = u; tuple = t }
+
+abbrev pub shows : List Shown
+shows =
+    shown (some (accepted (0x91 ∷ 0x06 ∷ []))) (some (accepted (0x91 ∷ 0x93 ∷ 0xa1 ∷ 0x3d ∷ 0x00 ∷ 0xcd ∷ 0x00 ∷ 0x05 ∷ []))) (0x91 ∷ 0x06 ∷ [])
+    ∷ shown (some (refused 13 0)) none (0x91 ∷ 0x06 ∷ [])
+    ∷ shown (some (accepted (0x92 ∷ 0x2a ∷ 0x06 ∷ []))) (some (tooShort [])) (0x92 ∷ 0x2a ∷ 0x06 ∷ [])
+    ∷ shown (some (accepted (0x91 ∷ 0x06 ∷ []))) none (0x92 ∷ 0x2a ∷ 0x06 ∷ [])
+    ∷ shown (some (tooShort (0x00 ∷ []))) none (0x92 ∷ 0x2a ∷ 0x06 ∷ [])
+    ∷ shown (some (tooShort (0x00 ∷ []))) none (0x92 ∷ 0x2a ∷ 0x06 ∷ [])
+    ∷ shown (some (accepted (0x91 ∷ 0x06 ∷ []))) none (0x91 ∷ 0x06 ∷ [])
+    ∷ shown (some (record { number = 0; operation = 0; length = 4; buffer = 0x91 ∷ 0xcd ∷ 0x00 ∷ 0x05 ∷ [] })) none (0x91 ∷ 0xcd ∷ 0x00 ∷ 0x05 ∷ [])
+    ∷ shown none none (0x91 ∷ 0xcd ∷ 0x00 ∷ 0x05 ∷ [])
+    ∷ []
+
+pub worked : (map computed known ≡ known) × ((map computed rules ≡ rules) × ((trace byCalls (start first) events ≡ shows) × (trace byMemory (start first) events ≡ shows)))
+unfolding formOf sameKind number payload sized items byForm one tooDeep container value pieces joined dueIn due naturalOf unsignedBy unsigned twosComplement signedOf signedBy signed adding integer counted header bigEndian unsignedForm negativeForm stringHeader arrayHeader plain filling values fieldsBy fieldsOf onGot then made nothing valueFrom anyValue integerFrom anyInteger less floor atLeast position stringFrom string countFrom count mark three five actionOf operation before andMore operations listBy operationsOf asℤ ranged spliced became suited altered editAt fieldAt planOf plans fits limited perform step run operationBytes restored inverse undoOf numberOf judged onRun updateOf limitedList undoListOf update undo refusing writing delivered updateCall undoCall start plainBy plainOf wrote byCalls byMemory entered taken takenTop after callTop callOf listing undoneOf trace
+worked = (refl, (refl, (refl, refl)))

@@ -1,0 +1,39 @@
+#!/usr/bin/env python3
+"""The worked cases of the program `cases`, and what it must print of them.
+
+  cases.py lines   > crates/cases/stdin
+  cases.py answers > crates/cases/stdout
+
+`data/msgpack.tsv` holds published MessagePack vectors, `data/*.bin` recorded frames; all else is made here.
+"""
+import os
+import sys
+
+import damaged_values
+import frame_cases
+import values
+
+CALLS = {"v": lambda line: values.line(line.split("\t")[1]), "f": frame_cases.answer}
+
+
+def lines():
+    path = os.path.join(os.path.dirname(__file__), "data", "msgpack.tsv")
+    for line in open(path, encoding="utf-8").read().split("\n"):
+        if line and not line.startswith("#"):
+            yield "v\t" + line
+    for b, what in damaged_values.cases():
+        yield "v\t%s\t%s\tours" % (bytes(b).hex(), what)
+    yield from frame_cases.lines()
+
+
+def main():
+    if sys.argv[1:] == ["answers"]:
+        for b in range(256):
+            print(values.form_line(b))
+    for line in lines():
+        if line[0] in CALLS:
+            print(line if sys.argv[1:] == ["lines"] else CALLS[line[0]](line))
+
+
+if __name__ == "__main__":
+    main()
