@@ -84,10 +84,10 @@ fn table_of(s: &[u8], count: usize, from: usize) -> Table
 pub fn table_at(s: &[u8], at: usize) -> Table
     ensures { λ r. ⌜ r ≡ tabled (entriesAt heldDepth (now (s .entry)) at) ⌝ }
 {
-    let Header::Is(count, from) = scalars::header_at(s, at, Opening::Map) else {
-        return empty_table(6);
-    };
-    table_of(s, count, from)
+    match scalars::header_at(s, at, Opening::Map) {
+        Header::Is(count, from) => table_of(s, count, from),
+        Header::Other => empty_table(6),
+    }
 }
 
 fn absent() -> Place

@@ -1,4 +1,4 @@
--- Frames: what their keys hold, how they are read, in 01's order of refusals, how they are written, and the round trip.
+-- Frames: what their keys hold, how they are read, in 01's order of refusals, and how they are written.
 pub mod Limits
 pub mod Held
 pub mod Keys
@@ -7,5 +7,4 @@ pub mod Cascade
 pub mod Maps
 pub mod Reading
 pub mod Writing
-pub mod RoundTrip
 pub mod Examples

@@ -33,7 +33,7 @@ keyed Other next = none
 keyed Cut next = none
 keyed (Is k l) next = check none (leb k maxKey) (next k l)
 
--- the entry at `at`, its value of depth at most d: none where its key is no key
+-- the entry at `at`, its value of depth at most d: none where its key is no key (the values of a whole map are whole)
 unfoldable pub entryAt : ℕ → Bytes → ℕ → Option Entry
 entryAt d s at = keyed (unsigned (drop at s)) (λ k l. whole none (value d (drop (at + l) s)) (λ m. some (entry k (at + l) m)))
 

@@ -80,7 +80,7 @@ sizeBy (Is n k) = pick (leb 1 n && leb n maxSize) (Promises n k) (Refused 3)
 unfoldable pub sizeOf : Bytes → Size
 sizeOf s = sizeBy (unsigned s)
 
--- 1 for the bytes that it promises. What follows the frame is cut off: header and body "lie within the size's bytes", and nothing more is judged
+-- 1 for the bytes that it promises. "Reading takes the first frame of the lent bytes, tells its length and judges nothing after it": the rest is cut off
 unfoldable pub bySize : Bytes → Size → FrameAnswer
 bySize s (Refused n) = refuse n
 bySize s (Promises n k) = check (refuse 1) (leb (k + n) (length s)) (inFrame (take (k + n) s) k)

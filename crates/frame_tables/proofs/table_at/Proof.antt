@@ -13,6 +13,9 @@ header-at-requires c κs = search needs
 enum-known-count : tie.Need-enum-known-count
 enum-known-count c = search needs
 
+table-of-requires : tie.Need-table-of-requires
+table-of-requires c κs = search needs
+
 enum-told : tie.Need-enum-told
 enum-told c = search needs
 
@@ -20,21 +23,18 @@ empty-table-requires : tie.Need-empty-table-requires
 empty-table-requires c κs = search needs
 
 returns : tie.Need-returns
-unfolding tabledOn
 returns c =
-    let b = c .before .before .before in
-    let a = b .before .before .args in
-    c .empty-table .ensures ∙ sym (ap tabled (no-map heldDepth (a .s .now) (a .at) (sym (c .before .enum-told .given .1) ∙ b .header-at .ensures)))
-
-table-of-requires : tie.Need-table-of-requires
-table-of-requires c κs = search needs
-
-returns-2 : tie.Need-returns-2
-returns-2 c =
     let k = c .before .before in
     let b = k .before .before in
     let a = b .before .before .args in
     c .table-of .ensures ∙ sym (ap tabled (a-map heldDepth (a .s .now) (a .at) _ _ (sym (k .count .given .1) ∙ b .header-at .ensures)))
+
+returns-2 : tie.Need-returns-2
+unfolding tabledOn
+returns-2 c =
+    let b = c .before .before .before in
+    let a = b .before .before .args in
+    c .empty-table .ensures ∙ sym (ap tabled (no-map heldDepth (a .s .now) (a .at) (sym (c .before .enum-told .given .1) ∙ b .header-at .ensures)))
 
 pub table-at-spec : {M : Type 1} → statement M
 table-at-spec =
@@ -42,8 +42,8 @@ table-at-spec =
     (tie.spec
     header-at-requires
     enum-known-count
+    table-of-requires
     enum-told
     empty-table-requires
     returns
-    table-of-requires
     returns-2)

@@ -1,0 +1,2 @@
+-- The round trip of frames.
+pub mod RoundTrip

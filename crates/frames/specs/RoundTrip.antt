@@ -1,1 +1,0 @@
--- "Reading what was written gives the same numbers and the same bytes per view. A frame the writer made is written again identically."
