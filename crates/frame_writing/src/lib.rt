@@ -13,7 +13,7 @@ ghost use Rattle.values.specs.Pieces.{joined};
 ghost use Rattle.writing.specs.Forms.{unsignedForm};
 ghost use Rattle.writing.specs.Put.{put, next};
 ghost use Rattle.frame_items.specs.Content.{heldOf, allItems, capped};
-ghost use Rattle.frame_writing.specs.Parts.{itemsBetween, pairBytes, pairOf};
+ghost use Rattle.frame_writing.specs.Parts.{itemsBetween, pairBytes, pairOf, refusal};
 
 // 4, over header and body.
 fn all_sound(frame: Frame, bytes: &[u8]) -> bool
@@ -22,7 +22,8 @@ fn all_sound(frame: Frame, bytes: &[u8]) -> bool
     let mut i: usize = 0;
     while i < 17 {
         let known = frame_items::known_key(frame, bytes, i);
-        if !frame_items::is_sound(bytes, known.content) {
+        let content = known.content;
+        if !frame_items::is_sound(bytes, content) {
             return false;
         }
         i += 1;
@@ -37,7 +38,9 @@ fn all_suit(frame: Frame, bytes: &[u8]) -> bool
     let mut i: usize = 0;
     while i < 17 {
         let known = frame_items::known_key(frame, bytes, i);
-        if !frame_items::content_suits(bytes, known.rule, known.content) {
+        let rule = known.rule;
+        let content = known.content;
+        if !frame_items::content_suits(bytes, rule, content) {
             return false;
         }
         i += 1;
@@ -52,8 +55,9 @@ fn holds(frame: Frame, bytes: &[u8], key: usize) -> bool
     let mut i: usize = 3;
     while i < 17 {
         let known = frame_items::known_key(frame, bytes, i);
+        let content = known.content;
         if key == known.key as usize {
-            return frame_items::is_written(known.content);
+            return frame_items::is_written(content);
         }
         i += 1;
     }
@@ -83,7 +87,8 @@ fn count_pairs(frame: Frame, bytes: &[u8], from: usize, to: usize) -> u32
     let mut i = from;
     while i < to {
         let known = frame_items::known_key(frame, bytes, i);
-        if frame_items::is_written(known.content) {
+        let content = known.content;
+        if frame_items::is_written(content) {
             count += 1;
         }
         i += 1;
@@ -110,7 +115,8 @@ fn pairs_length(frame: Frame, bytes: &[u8], from: usize, to: usize) -> usize
     let mut i = from;
     while i < to {
         let known = frame_items::known_key(frame, bytes, i);
-        total = capped_sum(total, frame_items::pair_length(bytes, known.content));
+        let content = known.content;
+        total = capped_sum(total, frame_items::pair_length(bytes, content));
         i += 1;
     }
     total
@@ -159,7 +165,8 @@ fn put_pairs(out: &mut [u8], at: usize, frame: Frame, bytes: &[u8], from: usize,
     let mut i = from;
     while i < to {
         let known = frame_items::known_key(frame, bytes, i);
-        a = put_pair(out, a, known.key, known.content, bytes);
+        let content = known.content;
+        a = put_pair(out, a, known.key, content, bytes);
         i += 1;
     }
     a
@@ -201,7 +208,7 @@ fn contents_length(frame: Frame, bytes: &[u8]) -> usize
 }
 
 fn refused(number: u32) -> Written
-    ensures { λ r. ⌜ (r .number ≡ number) × (r .length ≡ 0) ⌝ }
+    ensures { λ r. ⌜ r ≡ refusal number ⌝ }
 {
     Written { number, length: 0 }
 }
