@@ -49,7 +49,7 @@ module _ (s : Bytes) (k : KnownKey) {xs rest : List Item} (e : xs ≡ itemOf s k
   pair-counted total {p} {t} ep et =
       let o = encoded (heldOf s (k .content)) in
       let l : length (pairBytes xs) ≡ pairLength o + length (pairBytes rest)
-            = ap length (pair-first s k e) ∙ length-append (pairOf (k .key) o) (pairBytes rest) ∙ ap (λ (n : ℕ). n + length (pairBytes rest)) (pair-long (k .key) o)
+      = ap length (pair-first s k e) ∙ length-append (pairOf (k .key) o) (pairBytes rest) ∙ ap (λ (n : ℕ). n + length (pairBytes rest)) (pair-long (k .key) o)
       in
       rw (et, ep, l) (count-turn total (pairLength o) (length (pairBytes rest)))
 

@@ -30,7 +30,7 @@ is-sound-requires c κs = search needs
 
 returns : tie.Need-returns Inv-loop μ-loop
 unfolding itemOf
-returns c = 
+returns c =
     let k = c .before .before in
     let l = k .before .before .loop in
     let a = k .before .before .before .before .args in
@@ -44,7 +44,7 @@ loop-less c = omega arith
 
 loop-again : tie.Need-loop-again Inv-loop μ-loop
 unfolding itemOf
-loop-again c = 
+loop-again c =
     let k = c .before .before in
     let l = k .before .before .loop in
     let a = k .before .before .before .before .args in
@@ -52,7 +52,7 @@ loop-again c =
 
 returns-2 : tie.Need-returns-2 Inv-loop μ-loop
 unfolding all
-returns-2 c = 
+returns-2 c =
     let l = c .before .loop in
     let a = c .before .before .before .args in
     rw (no-run (a .frame) (a .bytes .now) (l .i) 17 (omega arith) (omega arith)) at (l .inv .1)

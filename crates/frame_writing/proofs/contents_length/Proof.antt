@@ -26,13 +26,13 @@ add-result-2 : tie.Need-add-result-2
 add-result-2 c = search needs
 
 returns : tie.Need-returns
-returns c = 
+returns c =
     let p = c .before in
     let a = p .before .before .before .args in
     contents-counted (a .frame) (a .bytes .now) (p .before .pairs-length .result) (p .pairs-length2 .result) (p .before .pairs-length .ensures) (p .pairs-length2 .ensures) (c .if1 .taken)
 
 returns-2 : tie.Need-returns-2
-returns-2 c = 
+returns-2 c =
     let p = c .before in
     let a = p .before .before .before .args in
     contents-past (a .frame) (a .bytes .now) (p .before .pairs-length .result) (p .pairs-length2 .result) (p .before .pairs-length .ensures) (p .pairs-length2 .ensures) (c .if1 .left)

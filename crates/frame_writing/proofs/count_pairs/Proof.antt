@@ -36,7 +36,7 @@ loop-less : tie.Need-loop-less Inv-loop μ-loop
 loop-less c = omega arith
 
 loop-again : tie.Need-loop-again Inv-loop μ-loop
-loop-again c = 
+loop-again c =
     let k = c .before .before in
     let l = k .before .before .loop in
     let a = k .before .before .before .before .args in
@@ -48,7 +48,7 @@ loop-again c =
 
 returns : tie.Need-returns Inv-loop μ-loop
 unfolding pairs
-returns c = 
+returns c =
     let l = c .before .loop in
     let a = c .before .before .before .args in
     let e = rw (no-run (a .frame) (a .bytes .now) (l .i) (a .to) (omega arith) (omega arith)) at (l .inv .1 .1) in

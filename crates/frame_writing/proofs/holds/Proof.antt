@@ -32,7 +32,7 @@ is-written-requires c κs = search needs
 
 returns : tie.Need-returns Inv-loop μ-loop
 unfolding itemOf
-returns c = 
+returns c =
     let k = c .before .before .before in
     let l = k .before .before .loop in
     let a = k .before .before .before .before .args in
@@ -48,7 +48,7 @@ loop-less c = omega arith
 
 loop-again : tie.Need-loop-again Inv-loop μ-loop
 unfolding itemOf
-loop-again c = 
+loop-again c =
     let k = c .before .before in
     let l = k .before .before .loop in
     let a = k .before .before .before .before .args in
@@ -56,7 +56,7 @@ loop-again c =
 
 returns-2 : tie.Need-returns-2 Inv-loop μ-loop
 unfolding locate present encoded
-returns-2 c = 
+returns-2 c =
     let l = c .before .loop in
     let a = c .before .before .before .args in
     ap (λ (h : Held). present (encoded h)) (rw (no-run (a .frame) (a .bytes .now) (l .i) 17 (omega arith) (omega arith)) at (l .inv .1))

@@ -30,7 +30,7 @@ holds-requires : tie.Need-holds-requires Inv-loop μ-loop
 holds-requires c κs = search needs
 
 returns : tie.Need-returns Inv-loop μ-loop
-returns c = 
+returns c =
     let b = c .before in
     let l = b .before .before .before .loop in
     let a = b .before .before .before .before .before .before .args in
@@ -43,7 +43,7 @@ loop-less : tie.Need-loop-less Inv-loop μ-loop
 loop-less c = omega arith
 
 loop-again : tie.Need-loop-again Inv-loop μ-loop
-loop-again c = 
+loop-again c =
     let b = c .before in
     let l = b .before .before .before .loop in
     let a = b .before .before .before .before .before .before .args in
@@ -51,7 +51,7 @@ loop-again c =
 
 returns-2 : tie.Need-returns-2 Inv-loop μ-loop
 unfolding all
-returns-2 c = 
+returns-2 c =
     let l = c .before .loop in
     let k = c .before .before .before .before .args .keys .now in
     let h : length k ≤ l .i = omega arith in

@@ -18,7 +18,7 @@ abbrev μ-loop : tie.MeasureT-loop
 μ-loop frame bytes from to total₀ i₀ total i = to - i
 
 loop-holds : tie.Need-loop-holds Inv-loop μ-loop
-loop-holds c = 
+loop-holds c =
     let a = c .before .args in
     let n = length (pairBytes (itemsBetween (a .from) (a .to) (a .frame) (a .bytes .now))) in
     let z : 0 + n ≡ n = omega arith in
@@ -40,14 +40,14 @@ loop-less : tie.Need-loop-less Inv-loop μ-loop
 loop-less c = omega arith
 
 loop-again : tie.Need-loop-again Inv-loop μ-loop
-loop-again c = 
+loop-again c =
     let k = c .before .before in
     let l = k .before .before .loop in
     let a = k .before .before .before .before .args in
     (omega arith, (rw (c .capped-sum .ensures) (capped-few _), pair-counted (a .bytes .now) (k .known-key .result) (run (a .frame) (a .bytes .now) (l .i) (a .to) (k .known-key .result) (k .known-key .ensures) (k .before .loop-test .taken) (omega arith)) (l .total) (c .before .pair-length .ensures) (c .capped-sum .ensures) ∙ l .inv .1 .1))
 
 returns : tie.Need-returns Inv-loop μ-loop
-returns c = 
+returns c =
     let l = c .before .loop in
     let a = c .before .before .before .args in
     all-counted (l .total) (no-run (a .frame) (a .bytes .now) (l .i) (a .to) (omega arith) (omega arith)) (omega arith) ∙ l .inv .1 .1

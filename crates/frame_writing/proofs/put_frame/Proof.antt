@@ -11,7 +11,7 @@ write-tagged-requires : tie.Need-write-tagged-requires
 write-tagged-requires c κs = search needs
 
 put-map-requires : tie.Need-put-map-requires
-put-map-requires c κs = 
+put-map-requires c κs =
     let w = c .before .before .before in
     let s = w .before .before .before .before in
     let a = s .args in
@@ -19,7 +19,7 @@ put-map-requires c κs =
     ((omega arith, omega arith), first-room (headerForm (a .frame) (a .bytes .now)) (bodyForm (a .frame) (a .bytes .now)) (w .write-tagged .result) refl (t .room))
 
 put-map-requires-2 : tie.Need-put-map-requires-2
-put-map-requires-2 c κs = 
+put-map-requires-2 c κs =
     let q = c .before .before .before in
     let w = q .before .before .before .before in
     let s = w .before .before .before .before in
@@ -31,7 +31,7 @@ same-length : tie.Need-same-length
 same-length c = search needs
 
 returns : tie.Need-returns
-returns c = 
+returns c =
     let p = c .before .before in
     let q = p .before .before .before .before in
     let w = q .before .before .before .before in

@@ -15,7 +15,7 @@ write-map-header-requires : tie.Need-write-map-header-requires
 write-map-header-requires c κs = search needs
 
 put-pairs-requires : tie.Need-put-pairs-requires
-put-pairs-requires c κs = 
+put-pairs-requires c κs =
     let w = c .before .before .before in
     let n = w .before .before in
     let s = n .before .before .before in
@@ -27,7 +27,7 @@ same-length : tie.Need-same-length
 same-length c = search needs
 
 returns : tie.Need-returns
-returns c = 
+returns c =
     let q = c .before .before in
     let w = q .before .before .before .before in
     let n = w .before .before in

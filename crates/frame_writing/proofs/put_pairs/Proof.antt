@@ -26,7 +26,7 @@ known-key-requires : tie.Need-known-key-requires Inv-loop μ-loop
 known-key-requires c κs = search needs
 
 put-pair-requires : tie.Need-put-pair-requires Inv-loop μ-loop
-put-pair-requires c κs = 
+put-pair-requires c κs =
     let k = c .before in
     let l = k .before .before .loop in
     let a = k .before .before .before .before .before .args in
@@ -39,7 +39,7 @@ loop-less : tie.Need-loop-less Inv-loop μ-loop
 loop-less c = omega arith
 
 loop-again : tie.Need-loop-again Inv-loop μ-loop
-loop-again c = 
+loop-again c =
     let k = c .before .before .before .before in
     let l = k .before .before .loop in
     let a = k .before .before .before .before .before .args in
@@ -50,7 +50,7 @@ same-length c = long (c .before .loop .inv .1)
 
 returns : tie.Need-returns Inv-loop μ-loop
 unfolding pairBytes pairs flat joined
-returns c = 
+returns c =
     let l = c .before .loop in
     let a = c .before .before .before .before .args in
     turned (l .inv .1) (ap pairBytes (no-run (a .frame) (a .bytes .now) (l .i) (a .to) (omega arith) (omega arith)))

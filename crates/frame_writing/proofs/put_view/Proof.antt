@@ -18,7 +18,7 @@ same-length c = search needs
 
 returns : tie.Need-returns
 unfolding bigEndian
-returns c = 
+returns c =
     let w = c .before .before in
     let t = w .before .before .before .before in
     let a = t .before .before .before .before .args in

@@ -1,107 +1,167 @@
+-- Each refusal in its order, then the bytes. Assumes nothing.
+use mathlib.Core.Path.{_≡_, sym, _∙_}
+use mathlib.Core.Bool.{true}
+use mathlib.Core.Option.{some}
+use Prim.Native.Nat.{ℕ, _≤_}
+use native.Mathlib.Omega.{arith}
+use borrow.Author.Tests.{not-true, not-false}
+use lib.ListN.{length, take}
+use lib.Seq.{length-take-le}
+use Rattle.frames.specs.Codes.{required}
+use Rattle.frame_writing.proofs.Lengths.{capped-within, capped-past}
+use Rattle.frame_writing.proofs.Calls.{Sound, Suited, There, contentsOf, call-8, call-4, call-9, call-10, call-3, call-18, call-0, no-needs, some-needs, form-long}
 use borrow.Author.Needs.{needs}
 use Rattle.frame_writing.proofs.write_frame.Statement.{statement}
 use Rattle.frame_writing.proofs.write_frame.Tie as tie
-use Rattle.frame_writing.proofs.write_frame.Reads as reads
-use Rattle.frame_writing.proofs.write_frame.Lts as lts
-use Rattle.frame_rules.proofs.needs_of.Reads as needs-of-reads
-use Rattle.frame_writing.proofs.all_sound.Reads as all-sound-reads
-use Rattle.frame_writing.proofs.all_suit.Reads as all-suit-reads
-use Rattle.frame_writing.proofs.contents_length.Reads as contents-length-reads
-use Rattle.frame_writing.proofs.holds_all.Reads as holds-all-reads
-use Rattle.frame_writing.proofs.put_frame.Reads as put-frame-reads
-use Rattle.frame_writing.proofs.refused.Reads as refused-reads
 
--- src/lib.rt:221:9
+-- what is known behind each test
+known : (c : tie.After-all-sound)
+    → (let n = c .before .before .before in some (take (n .needs-of .result .count) (n .needs-of .result .keys)) ≡ required (n .before .before .before .args .frame .code))
+known c = let n = c .before .before .before in some-needs (n .needs-of .result) (n .needs-of .ensures .0) (not-false _ (c .before .if1 .left))
+
+whole : (c : tie.After-all-suit) → (let a = c .before .before .before .before .before .before .before .before .args in Sound (a .frame) (a .bytes .now) true)
+whole c = sym (not-false _ (c .before .if2 .left)) ∙ c .before .before .all-sound .ensures
+
+suited : (c : tie.After-holds-all)
+    → (let a = c .before .before .before .before .before .before .before .before .before .before .before .before .args in Suited (a .frame) (a .bytes .now) true)
+suited c = sym (not-false _ (c .before .before .before .if3 .left)) ∙ c .before .before .before .before .all-suit .ensures
+
+there : (c : tie.After-contents-length)
+    → (let n = c .before .before .before .before .before .before .before .before .before .before .before in
+    let a = n .before .before .before .args in
+    There (a .frame) (a .bytes .now) (take (n .needs-of .result .count) (n .needs-of .result .keys)) true)
+there c = sym (not-false _ (c .before .if4 .left)) ∙ c .before .before .holds-all .ensures
+
+sized : (c : tie.After-contents-length) → c .contents-length .result ≤ 60000
+    → (let a = c .before .before .before .before .before .before .before .before .before .before .before .before .before .before .args in
+    c .contents-length .result ≡ length (contentsOf (a .frame) (a .bytes .now)))
+sized c h = let e = c .contents-length .ensures in e ∙ capped-within _ (omega arith)
+
 needs-of-requires : tie.Need-needs-of-requires
 needs-of-requires c κs = search needs
 
--- src/lib.rt:223:9
 refused-requires : tie.Need-refused-requires
 refused-requires c κs = search needs
 
--- src/lib.rt:223:9
 returns : tie.Need-returns
-returns c = ?
+returns c =
+    let n = c .before .before .before in
+    let a = n .before .before .before .args in
+    rw (c .refused .ensures) (call-8 (a .frame) (a .bytes .now) (a .out .now) (no-needs (n .needs-of .result) (n .needs-of .ensures .0) (not-true _ (c .before .if1 .taken))))
 
--- src/lib.rt:225:9
 all-sound-requires : tie.Need-all-sound-requires
 all-sound-requires c κs = search needs
 
--- src/lib.rt:226:9
 refused-requires-2 : tie.Need-refused-requires-2
 refused-requires-2 c κs = search needs
 
--- src/lib.rt:226:9
 returns-2 : tie.Need-returns-2
-returns-2 c = ?
+returns-2 c =
+    let p = c .before .before in
+    let n = p .before .before .before in
+    let a = n .before .before .before .args in
+    rw (c .refused2 .ensures) (call-4 (a .frame) (a .bytes .now) (a .out .now) (take (n .needs-of .result .count) (n .needs-of .result .keys)) (known p) (sym (not-true _ (c .before .if2 .taken)) ∙ p .all-sound .ensures))
 
--- src/lib.rt:228:9
 all-suit-requires : tie.Need-all-suit-requires
 all-suit-requires c κs = search needs
 
--- src/lib.rt:229:9
 refused-requires-3 : tie.Need-refused-requires-3
 refused-requires-3 c κs = search needs
 
--- src/lib.rt:229:9
 returns-3 : tie.Need-returns-3
-returns-3 c = ?
+returns-3 c =
+    let q = c .before .before in
+    let p = q .before .before in
+    let n = p .before .before .before in
+    let a = n .before .before .before .args in
+    rw (c .refused3 .ensures) (call-9 (a .frame) (a .bytes .now) (a .out .now) (take (n .needs-of .result .count) (n .needs-of .result .keys)) (known p) (whole q) (sym (not-true _ (c .before .if3 .taken)) ∙ q .all-suit .ensures))
 
--- src/lib.rt:233:33
 array-share-prefix-keys : tie.Need-array-share-prefix-keys
 array-share-prefix-keys c = search needs
 
--- src/lib.rt:233:33
 slice-aggregate-holds-all : tie.Need-slice-aggregate-holds-all
-slice-aggregate-holds-all c = ?
+slice-aggregate-holds-all c =
+    let n = c .before .before .before .before .before .before .before .before in
+    sym (length-take-le _ (n .needs-of .result .keys) (n .needs-of .ensures .1))
 
--- src/lib.rt:233:9
 holds-all-requires : tie.Need-holds-all-requires
 holds-all-requires c κs = search needs
 
--- src/lib.rt:234:9
 refused-requires-4 : tie.Need-refused-requires-4
 refused-requires-4 c κs = search needs
 
--- src/lib.rt:234:9
 returns-4 : tie.Need-returns-4
-returns-4 c = ?
+returns-4 c =
+    let h = c .before .before in
+    let q = h .before .before .before .before in
+    let p = q .before .before in
+    let n = p .before .before .before in
+    let a = n .before .before .before .args in
+    rw (c .refused4 .ensures) (call-10 (a .frame) (a .bytes .now) (a .out .now) (take (n .needs-of .result .count) (n .needs-of .result .keys)) (known p) (whole q) (suited h) (sym (not-true _ (c .before .if4 .taken)) ∙ h .holds-all .ensures))
 
--- src/lib.rt:236:9
 contents-length-requires : tie.Need-contents-length-requires
 contents-length-requires c κs = search needs
 
--- src/lib.rt:238:9
 refused-requires-5 : tie.Need-refused-requires-5
 refused-requires-5 c κs = search needs
 
--- src/lib.rt:238:9
 returns-5 : tie.Need-returns-5
-returns-5 c = ?
+returns-5 c =
+    let l = c .before .before in
+    let h = l .before .before in
+    let q = h .before .before .before .before in
+    let p = q .before .before in
+    let n = p .before .before .before in
+    let a = n .before .before .before .args in
+    let e = l .contents-length .ensures in
+    rw (c .refused5 .ensures) (call-3 (a .frame) (a .bytes .now) (a .out .now) (take (n .needs-of .result .count) (n .needs-of .result .keys)) (known p) (whole q) (suited h) (there l) (capped-past (length (contentsOf (a .frame) (a .bytes .now))) (omega arith)))
 
--- src/lib.rt:240:20
 add-if6 : tie.Need-add-if6
 add-if6 c = search needs
 
--- src/lib.rt:241:9
 refused-requires-6 : tie.Need-refused-requires-6
 refused-requires-6 c κs = search needs
 
--- src/lib.rt:241:9
 returns-6 : tie.Need-returns-6
-returns-6 c = ?
+returns-6 c =
+    let l = c .before .before .before in
+    let h = l .before .before in
+    let q = h .before .before .before .before in
+    let p = q .before .before in
+    let n = p .before .before .before in
+    let a = n .before .before .before .args in
+    let e = sized l (c .before .before .if5 .left) in
+    let f = form-long (contentsOf (a .frame) (a .bytes .now)) in
+    rw (c .refused6 .ensures) (call-18 (a .frame) (a .bytes .now) (a .out .now) (take (n .needs-of .result .count) (n .needs-of .result .keys)) (known p) (whole q) (suited h) (there l) (omega arith) (omega arith))
 
--- src/lib.rt:243:9
 put-frame-requires : tie.Need-put-frame-requires
-put-frame-requires c κs = ?
+put-frame-requires c κs =
+    let l = c .before .before .before in
+    let h = l .before .before in
+    let q = h .before .before .before .before in
+    let p = q .before .before in
+    let n = p .before .before .before in
+    let a = n .before .before .before .args in
+    let e = sized l (c .before .before .if5 .left) in
+    let f = form-long (contentsOf (a .frame) (a .bytes .now)) in
+    (e, omega arith)
 
--- src/lib.rt:217:1
 same-length : tie.Need-same-length
 same-length c = search needs
 
--- src/lib.rt:217:1
 returns-7 : tie.Need-returns-7
-returns-7 c = ?
+returns-7 c =
+    let l = c .before .before .before .before .before .before in
+    let h = l .before .before in
+    let q = h .before .before .before .before in
+    let p = q .before .before in
+    let n = p .before .before .before in
+    let a = n .before .before .before .args in
+    let i = c .before .before .before .before .before .if5 .left in
+    let j = c .before .before .before .before .if6 .left in
+    let e = sized l i in
+    let f = form-long (contentsOf (a .frame) (a .bytes .now)) in
+    call-0 (a .frame) (a .bytes .now) (a .out .now) (take (n .needs-of .result .count) (n .needs-of .result .keys)) (known p) (whole q) (suited h) (there l) (omega arith) (omega arith) (c .before .before .put-frame .ensures)
 
 pub write-frame-spec : {M : Type 1} → statement M
 write-frame-spec =
