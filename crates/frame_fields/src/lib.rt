@@ -13,7 +13,7 @@ ghost use Rattle.frames.specs.Reading.{suited};
 ghost use Rattle.frame_tables.specs.Tables.{placeIn};
 
 // The bytes of a place, as far as there are any.
-fn view_of(s: &[u8], place: Place) -> &[u8]
+pub fn view_of(s: &[u8], place: Place) -> &[u8]
     ensures { λ r. ⌜ now r ≡ view (now (s .entry)) place ⌝ }
 {
     let start = place.start;

@@ -1,0 +1,2 @@
+-- The laws of the known keys.
+pub mod Laws

@@ -1,0 +1,59 @@
+-- By the content. Assumes nothing.
+use Rattle.frames.specs.Writing.{sound}
+use Rattle.frame_items.specs.Content.{heldOf}
+use borrow.Author.Needs.{needs}
+use Rattle.frame_items.proofs.is_sound.Statement.{statement}
+use Rattle.frame_items.proofs.is_sound.Tie as tie
+use Rattle.frame_items.proofs.is_sound.Reads as reads
+use Rattle.frame_items.proofs.is_sound.Lts as lts
+use Rattle.frame_fields.proofs.view_of.Reads as view-of-reads
+use Rattle.frame_items.proofs.view_sound.Reads as view-sound-reads
+
+enum-told : tie.Need-enum-told
+enum-told c = search needs
+
+enum-told-2 : tie.Need-enum-told-2
+enum-told-2 c = search needs
+
+enum-told-3 : tie.Need-enum-told-3
+enum-told-3 c = search needs
+
+enum-known-content : tie.Need-enum-known-content
+enum-known-content c = search needs
+
+view-of-requires : tie.Need-view-of-requires
+view-of-requires c κs = search needs
+
+view-sound-requires : tie.Need-view-sound-requires
+view-sound-requires c κs = search needs
+
+returns : tie.Need-returns
+unfolding heldOf sound
+returns c = rw (c .enum-told .given .1)
+
+returns-2 : tie.Need-returns-2
+unfolding heldOf sound
+returns-2 c = rw (c .enum-told2 .given .1)
+
+returns-3 : tie.Need-returns-3
+unfolding heldOf sound
+returns-3 c = rw (c .enum-told3 .given .1)
+
+returns-4 : tie.Need-returns-4
+unfolding heldOf
+returns-4 c = rw (c .before .before .before .content .given .1, ← (c .before .view-of .ensures)) (c .view-sound .ensures)
+
+pub is-sound-spec : {M : Type 1} → statement M
+is-sound-spec =
+    tie.close
+    (tie.spec
+    enum-told
+    enum-told-2
+    enum-told-3
+    enum-known-content
+    view-of-requires
+    view-sound-requires
+    returns
+    returns-2
+    returns-3
+    returns-4)

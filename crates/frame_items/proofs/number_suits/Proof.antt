@@ -1,0 +1,48 @@
+-- By the rule. Assumes nothing.
+use Rattle.frames.specs.Held.{suits}
+use borrow.Author.Needs.{needs}
+use Rattle.frame_items.proofs.number_suits.Statement.{statement}
+use Rattle.frame_items.proofs.number_suits.Tie as tie
+use Rattle.frame_items.proofs.number_suits.Reads as reads
+use Rattle.frame_items.proofs.number_suits.Lts as lts
+
+enum-known-rule : tie.Need-enum-known-rule
+enum-known-rule c = search needs
+
+enum-told : tie.Need-enum-told
+enum-told c = search needs
+
+enum-told-2 : tie.Need-enum-told-2
+enum-told-2 c = search needs
+
+enum-told-3 : tie.Need-enum-told-3
+enum-told-3 c = search needs
+
+returns : tie.Need-returns
+unfolding suits
+returns c = rw (c .before .rule .given .1)
+
+returns-2 : tie.Need-returns-2
+unfolding suits
+returns-2 c = rw (c .enum-told .given .1)
+
+returns-3 : tie.Need-returns-3
+unfolding suits
+returns-3 c = rw (c .enum-told2 .given .1)
+
+returns-4 : tie.Need-returns-4
+unfolding suits
+returns-4 c = rw (c .enum-told3 .given .1)
+
+pub number-suits-spec : {M : Type 1} → statement M
+number-suits-spec =
+    tie.close
+    (tie.spec
+    enum-known-rule
+    enum-told
+    enum-told-2
+    enum-told-3
+    returns
+    returns-2
+    returns-3
+    returns-4)

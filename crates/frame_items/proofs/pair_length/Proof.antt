@@ -1,0 +1,69 @@
+-- By the content. Assumes nothing.
+use mathlib.Core.Path.{refl, ap, _∙_}
+use Rattle.frames.specs.Held.{encoded}
+use Rattle.frame_items.specs.Content.{heldOf, pairLength, capped}
+use borrow.Author.Needs.{needs}
+use Rattle.frame_items.proofs.pair_length.Statement.{statement}
+use Rattle.frame_items.proofs.pair_length.Tie as tie
+use Rattle.frame_items.proofs.pair_length.Reads as reads
+use Rattle.frame_items.proofs.pair_length.Lts as lts
+use Rattle.frame_fields.proofs.view_of.Reads as view-of-reads
+use Rattle.frame_items.proofs.with_key.Reads as with-key-reads
+use Rattle.writing.proofs.unsigned_length.Reads as unsigned-length-reads
+
+enum-told : tie.Need-enum-told
+enum-told c = search needs
+
+enum-told-2 : tie.Need-enum-told-2
+enum-told-2 c = search needs
+
+enum-known-content : tie.Need-enum-known-content
+enum-known-content c = search needs
+
+unsigned-length-requires : tie.Need-unsigned-length-requires
+unsigned-length-requires c κs = search needs
+
+with-key-requires : tie.Need-with-key-requires
+with-key-requires c κs = search needs
+
+enum-known-content-2 : tie.Need-enum-known-content-2
+enum-known-content-2 c = search needs
+
+view-of-requires : tie.Need-view-of-requires
+view-of-requires c κs = search needs
+
+with-key-requires-2 : tie.Need-with-key-requires-2
+with-key-requires-2 c κs = search needs
+
+returns : tie.Need-returns
+unfolding heldOf encoded pairLength capped
+returns c = rw (c .enum-told .given .1)
+
+returns-2 : tie.Need-returns-2
+unfolding heldOf encoded pairLength capped
+returns-2 c = rw (c .enum-told2 .given .1)
+
+returns-3 : tie.Need-returns-3
+unfolding heldOf encoded pairLength
+returns-3 c = rw (c .before .before .before .content .given .1, ← (c .before .unsigned-length .ensures)) (c .with-key .ensures)
+
+returns-4 : tie.Need-returns-4
+unfolding heldOf encoded pairLength
+returns-4 c = rw (c .before .before .before .content2 .given .1, ← (c .before .view-of .ensures)) (c .with-key2 .ensures)
+
+pub pair-length-spec : {M : Type 1} → statement M
+pair-length-spec =
+    tie.close
+    (tie.spec
+    enum-told
+    enum-told-2
+    enum-known-content
+    unsigned-length-requires
+    with-key-requires
+    enum-known-content-2
+    view-of-requires
+    with-key-requires-2
+    returns
+    returns-2
+    returns-3
+    returns-4)

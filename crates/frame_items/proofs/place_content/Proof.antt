@@ -1,0 +1,32 @@
+-- Absent, outside, or within. Assumes nothing.
+use native.Mathlib.Omega.{arith}
+use borrow.Author.Tests.{not-true, not-false}
+use Rattle.frame_items.specs.Content.{heldOf}
+use Rattle.frame_items.proofs.Laws.{place-absent, place-outside, place-inside}
+use borrow.Author.Needs.{needs}
+use Rattle.frame_items.proofs.place_content.Statement.{statement}
+use Rattle.frame_items.proofs.place_content.Tie as tie
+use Rattle.frame_items.proofs.place_content.Reads as reads
+use Rattle.frame_items.proofs.place_content.Lts as lts
+
+returns : tie.Need-returns
+unfolding heldOf
+returns c = let a = c .before .before .args in place-absent (a .bytes .now) (a .place) (not-true _ (c .if1 .taken))
+
+returns-2 : tie.Need-returns-2
+unfolding heldOf
+returns-2 c = let a = c .before .before .before .args in place-outside (a .bytes .now) (a .place) (not-false _ (c .before .if1 .left)) (omega arith)
+
+sub-if3 : tie.Need-sub-if3
+sub-if3 c = search needs
+
+returns-3 : tie.Need-returns-3
+unfolding heldOf
+returns-3 c = let a = c .before .before .before .before .args in place-outside (a .bytes .now) (a .place) (not-false _ (c .before .before .if1 .left)) (omega arith)
+
+returns-4 : tie.Need-returns-4
+unfolding heldOf
+returns-4 c = let a = c .before .before .before .before .args in place-inside (a .bytes .now) (a .place) (not-false _ (c .before .before .if1 .left)) (omega arith)
+
+pub place-content-spec : {M : Type 1} → statement M
+place-content-spec = tie.close (tie.spec returns returns-2 sub-if3 returns-3 returns-4)

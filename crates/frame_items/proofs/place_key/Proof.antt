@@ -1,0 +1,20 @@
+-- The place, under its key. Assumes nothing.
+use mathlib.Core.Path.{ap}
+use Rattle.frames.specs.Held.{item}
+use Rattle.frame_items.specs.Content.{itemOf}
+use borrow.Author.Needs.{needs}
+use Rattle.frame_items.proofs.place_key.Statement.{statement}
+use Rattle.frame_items.proofs.place_key.Tie as tie
+use Rattle.frame_items.proofs.place_key.Reads as reads
+use Rattle.frame_items.proofs.place_key.Lts as lts
+use Rattle.frame_items.proofs.place_content.Reads as place-content-reads
+
+place-content-requires : tie.Need-place-content-requires
+place-content-requires c κs = search needs
+
+returns : tie.Need-returns
+unfolding itemOf
+returns c = let a = c .before .before .args in ap (item (a .key) (a .rule)) (c .place-content .ensures)
+
+pub place-key-spec : {M : Type 1} → statement M
+place-key-spec = tie.close (tie.spec place-content-requires returns)

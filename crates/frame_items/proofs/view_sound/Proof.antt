@@ -1,0 +1,31 @@
+-- Whole, up to the last byte. Assumes nothing.
+use mathlib.Core.Path.{sym, _∙_}
+use Rattle.frames.specs.Writing.{sound}
+use Rattle.frame_items.proofs.Laws.{is-whole, is-broken}
+use borrow.Author.Needs.{needs}
+use Rattle.frame_items.proofs.view_sound.Statement.{statement}
+use Rattle.frame_items.proofs.view_sound.Tie as tie
+use Rattle.frame_items.proofs.view_sound.Reads as reads
+use Rattle.frame_items.proofs.view_sound.Lts as lts
+use Rattle.values.proofs.read_value.Reads as read-value-reads
+
+read-value-requires : tie.Need-read-value-requires
+read-value-requires c κs = search needs
+
+enum-known-end : tie.Need-enum-known-end
+enum-known-end c = search needs
+
+enum-told : tie.Need-enum-told
+enum-told c = search needs
+
+returns : tie.Need-returns
+unfolding sound
+returns c = is-whole _ _ _ (sym (c .before .end .given .1) ∙ c .before .before .before .read-value .ensures)
+
+returns-2 : tie.Need-returns-2
+unfolding sound
+returns-2 c = is-broken _ _ _ (sym (c .enum-told .given .1) ∙ c .before .before .read-value .ensures)
+
+pub view-sound-spec : {M : Type 1} → statement M
+view-sound-spec =
+    tie.close (tie.spec read-value-requires enum-known-end enum-told returns returns-2)

@@ -1,0 +1,21 @@
+-- Within a frame or past it. Assumes nothing.
+use Prim.Native.Nat.{_+_}
+use native.Mathlib.Omega.{arith}
+use Rattle.frame_items.proofs.Laws.{capped-low, capped-high}
+use borrow.Author.Needs.{needs}
+use Rattle.frame_items.proofs.with_key.Statement.{statement}
+use Rattle.frame_items.proofs.with_key.Tie as tie
+use Rattle.frame_items.proofs.with_key.Reads as reads
+use Rattle.frame_items.proofs.with_key.Lts as lts
+
+add-result : tie.Need-add-result
+add-result c = search needs
+
+returns : tie.Need-returns
+returns c = capped-low (c .before .args .n + 1) (omega arith)
+
+returns-2 : tie.Need-returns-2
+returns-2 c = capped-high (c .before .args .n + 1) (omega arith)
+
+pub with-key-spec : {M : Type 1} → statement M
+with-key-spec = tie.close (tie.spec add-result returns returns-2)

@@ -1,0 +1,111 @@
+-- What the caller sees, for each way that the judgement ends. Assumes nothing.
+use mathlib.Core.Path.{_≡_, refl, sym, ap, _∙_}
+use mathlib.Core.Bool.{Bool, true, false, _&&_}
+use mathlib.Core.List.{List, [], _∷_, _++_}
+use mathlib.Core.Option.{Option, none, some}
+use Prim.Native.Nat.{ℕ, _+_, _<_, _≤_}
+use native.Mathlib.Omega.{arith}
+use borrow.Author.Tests.{le-leb, lt-leb}
+use lib.ListN.{length, take, drop, length-append}
+use Rattle.first_bytes.specs.Bytes.{Bytes}
+use Rattle.writing.specs.Put.{put, next}
+use Rattle.writing.specs.Forms.{tagged}
+use Rattle.writing.proofs.Lengths.{length-tagged}
+use Rattle.writing.proofs.Put.{Wrote, wrote}
+use Rattle.frames.specs.declared.Frame.{Frame}
+use Rattle.frames.specs.Limits.{maxSize}
+use Rattle.frames.specs.Held.{all, suits, encoded, present, Item, locate}
+use Rattle.frames.specs.Keys.{headerItems, bodyItems}
+use Rattle.frames.specs.Codes.{required}
+use Rattle.frames.specs.Cascade.{check, given}
+use Rattle.frames.specs.Writing.{contents, frameForm, sound, each, writeItems, frameWrite, Call, seen, frameWriteCall}
+use Rattle.frame_rules.specs.Needs.{needed}
+use Rattle.frame_rules.specs.declared.Needs.{Needs}
+use Rattle.frame_items.specs.Content.{allItems}
+
+all-append : {A : Type 0} (p : A → Bool) (xs ys : List A) → all p (xs ++ ys) ≡ (all p xs && all p ys)
+unfolding all
+all-append p [] ys = refl
+all-append p (x ∷ xs) ys = ap (λ (b : Bool). p x && b) (all-append p xs ys) ∙ and-assoc (p x) (all p xs) (all p ys)
+  where
+    and-assoc : (a b c : Bool) → (a && (b && c)) ≡ ((a && b) && c)
+    and-assoc true b c = refl
+    and-assoc false b c = refl
+
+-- nothing written
+abbrev pub unwritten : ℕ → Bytes → Call
+unwritten n old = record { number = n; length = 0; buffer = old }
+
+-- the three judgements over items, as the code answers them
+abbrev pub Sound : Frame → Bytes → Bool → Type 0
+Sound r s b = b ≡ all (λ (x : Item). sound (x .held)) (allItems r s)
+
+abbrev pub Suited : Frame → Bytes → Bool → Type 0
+Suited r s b = b ≡ all (λ (x : Item). suits (x .rule) (x .held)) (allItems r s)
+
+abbrev pub There : Frame → Bytes → List ℕ → Bool → Type 0
+There r s needs b = b ≡ all (λ (k : ℕ). present (encoded (locate (bodyItems r s) k))) needs
+
+abbrev pub contentsOf : Frame → Bytes → Bytes
+contentsOf r s = contents (headerItems r) (bodyItems r s)
+
+module _ (r : Frame) (s old : Bytes) where
+  abbrev body : Bytes
+  body = contentsOf r s
+
+  each-all : (p : Item → Bool) {b : Bool} → b ≡ all p (allItems r s) → each p (headerItems r) (bodyItems r s) ≡ b
+  unfolding each allItems
+  each-all p e = sym (all-append p (headerItems r) (bodyItems r s)) ∙ sym e
+
+  pub call-8 : none ≡ required (r .code) → unwritten 8 old ≡ frameWriteCall r s old
+  unfolding frameWriteCall frameWrite writeItems given seen
+  call-8 e = rw (← e)
+
+  module _ (needs : List ℕ) (e8 : some needs ≡ required (r .code)) where
+    pub call-4 : Sound r s false → unwritten 4 old ≡ frameWriteCall r s old
+    unfolding frameWriteCall frameWrite writeItems given check seen
+    call-4 e4 = rw (← e8, each-all (λ (x : Item). sound (x .held)) e4)
+
+    module _ (e4 : Sound r s true) where
+      pub call-9 : Suited r s false → unwritten 9 old ≡ frameWriteCall r s old
+      unfolding frameWriteCall frameWrite writeItems given check seen
+      call-9 e9 = rw (← e8, each-all (λ (x : Item). sound (x .held)) e4, each-all (λ (x : Item). suits (x .rule) (x .held)) e9)
+
+      module _ (e9 : Suited r s true) where
+        pub call-10 : There r s needs false → unwritten 10 old ≡ frameWriteCall r s old
+        unfolding frameWriteCall frameWrite writeItems given check seen
+        call-10 e10 = rw (← e8, each-all (λ (x : Item). sound (x .held)) e4, each-all (λ (x : Item). suits (x .rule) (x .held)) e9, ← e10)
+
+        module _ (e10 : There r s needs true) where
+          pub call-3 : maxSize < length body → unwritten 3 old ≡ frameWriteCall r s old
+          unfolding frameWriteCall frameWrite writeItems given check seen
+          call-3 h = rw (← e8, each-all (λ (x : Item). sound (x .held)) e4, each-all (λ (x : Item). suits (x .rule) (x .held)) e9, ← e10, lt-leb (length body) maxSize h)
+
+          module _ (h3 : length body ≤ maxSize) where
+            pub call-18 : length old < length (frameForm body) → unwritten 18 old ≡ frameWriteCall r s old
+            unfolding frameWriteCall frameWrite writeItems given check seen
+            call-18 h = rw (← e8, each-all (λ (x : Item). sound (x .held)) e4, each-all (λ (x : Item). suits (x .rule) (x .held)) e9, ← e10, le-leb (length body) maxSize h3, lt-leb (length (frameForm body)) (length old) h)
+
+            pub call-0 : length (frameForm body) ≤ length old → {n : ℕ} {cur : Bytes} → (n ≡ next 0 (frameForm body) old) × (cur ≡ put 0 (frameForm body) old)
+                → _≡_ {A = Call} (record { number = 0; length = n; buffer = cur }) (frameWriteCall r s old)
+            unfolding frameWriteCall frameWrite writeItems given check seen
+            call-0 h {n} {cur} e =
+                let w = wrote old 0 (frameForm body) e (omega arith) in
+                let z : 0 + length (frameForm body) ≡ length (frameForm body) = omega arith in
+                let en : n ≡ length (frameForm body) = omega arith in
+                let ec : cur ≡ frameForm body ++ drop (length (frameForm body)) old = rw z at (w .is) in
+                rw (← e8, each-all (λ (x : Item). sound (x .held)) e4, each-all (λ (x : Item). suits (x .rule) (x .held)) e9, ← e10, le-leb (length body) maxSize h3, le-leb (length (frameForm body)) (length old) h, en, ec)
+
+-- 8, as the code asks for it
+module _ (n : Needs) {o : Option (List ℕ)} (e : needed n ≡ o) where
+  pub no-needs : n .known ≡ false → none ≡ o
+  unfolding needed
+  no-needs h = rw h at e
+
+  pub some-needs : n .known ≡ true → some (take (n .count) (n .keys)) ≡ o
+  unfolding needed
+  some-needs h = rw h at e
+
+pub form-long : (c : Bytes) → length (frameForm c) ≡ length c + 5
+unfolding frameForm
+form-long c = let e = length-tagged 0xce 4 (length c) in simp length-append (omega arith)

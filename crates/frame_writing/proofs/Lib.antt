@@ -1,0 +1,4 @@
+-- The laws of writing a frame.
+pub mod Runs
+pub mod Lengths
+pub mod Calls

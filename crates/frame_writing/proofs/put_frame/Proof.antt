@@ -1,0 +1,47 @@
+-- The size, then the two maps. Assumes nothing.
+use mathlib.Core.Path.{_≡_, refl, sym, ap, _∙_}
+use Prim.Native.Nat.{ℕ, _+_, _-_, _≤_}
+use Rattle.frame_writing.proofs.Runs.{headerForm, bodyForm, size-turn, turn-on, first-room}
+use native.Mathlib.Omega.{arith}
+use borrow.Author.Needs.{needs}
+use Rattle.frame_writing.proofs.put_frame.Statement.{statement}
+use Rattle.frame_writing.proofs.put_frame.Tie as tie
+
+write-tagged-requires : tie.Need-write-tagged-requires
+write-tagged-requires c κs = search needs
+
+put-map-requires : tie.Need-put-map-requires
+put-map-requires c κs =
+    let w = c .before .before .before in
+    let s = w .before .before .before .before in
+    let a = s .args in
+    let t = size-turn (a .frame) (a .bytes .now) (a .size) (s .pre .0) (s .pre .1) (w .write-tagged .ensures) in
+    ((omega arith, omega arith), first-room (headerForm (a .frame) (a .bytes .now)) (bodyForm (a .frame) (a .bytes .now)) (w .write-tagged .result) refl (t .room))
+
+put-map-requires-2 : tie.Need-put-map-requires-2
+put-map-requires-2 c κs =
+    let q = c .before .before .before in
+    let w = q .before .before .before .before in
+    let s = w .before .before .before .before in
+    let a = s .args in
+    let t = size-turn (a .frame) (a .bytes .now) (a .size) (s .pre .0) (s .pre .1) (w .write-tagged .ensures) in
+    ((omega arith, omega arith), turn-on t (headerForm (a .frame) (a .bytes .now)) refl (q .put-map .ensures) .room)
+
+same-length : tie.Need-same-length
+same-length c = search needs
+
+returns : tie.Need-returns
+returns c =
+    let p = c .before .before in
+    let q = p .before .before .before .before in
+    let w = q .before .before .before .before in
+    let s = w .before .before .before .before in
+    let a = s .args in
+    let t = size-turn (a .frame) (a .bytes .now) (a .size) (s .pre .0) (s .pre .1) (w .write-tagged .ensures) in
+    let u = turn-on t (headerForm (a .frame) (a .bytes .now)) refl (q .put-map .ensures) in
+    (p .put-map2 .ensures .0 ∙ u .end, p .put-map2 .ensures .1 ∙ u .is)
+
+pub put-frame-spec : {M : Type 1} → statement M
+put-frame-spec =
+    tie.close
+    (tie.spec write-tagged-requires put-map-requires put-map-requires-2 same-length returns)

@@ -1,0 +1,47 @@
+-- The header, then the pairs. Assumes nothing.
+use mathlib.Core.Path.{_≡_, refl, sym, ap, _∙_}
+use Prim.Native.Nat.{ℕ, _+_, _-_, _≤_}
+use Rattle.writing.specs.Forms.{mapHeader}
+use Rattle.frame_writing.specs.Parts.{itemsBetween}
+use Rattle.frame_writing.proofs.Runs.{map-first, turn}
+use borrow.Author.Needs.{needs}
+use Rattle.frame_writing.proofs.put_map.Statement.{statement}
+use Rattle.frame_writing.proofs.put_map.Tie as tie
+
+count-pairs-requires : tie.Need-count-pairs-requires
+count-pairs-requires c κs = search needs
+
+write-map-header-requires : tie.Need-write-map-header-requires
+write-map-header-requires c κs = search needs
+
+put-pairs-requires : tie.Need-put-pairs-requires
+put-pairs-requires c κs =
+    let w = c .before .before .before in
+    let n = w .before .before in
+    let s = n .before .before .before in
+    let a = s .args in
+    let t = turn (a .out .now) (a .at) (mapHeader (n .count-pairs .result)) (map-first (itemsBetween (a .from) (a .to) (a .frame) (a .bytes .now)) (n .count-pairs .ensures)) (s .pre .1) (w .write-map-header .ensures) in
+    (s .pre .0, t .room)
+
+same-length : tie.Need-same-length
+same-length c = search needs
+
+returns : tie.Need-returns
+returns c =
+    let q = c .before .before in
+    let w = q .before .before .before .before in
+    let n = w .before .before in
+    let s = n .before .before .before in
+    let a = s .args in
+    let t = turn (a .out .now) (a .at) (mapHeader (n .count-pairs .result)) (map-first (itemsBetween (a .from) (a .to) (a .frame) (a .bytes .now)) (n .count-pairs .ensures)) (s .pre .1) (w .write-map-header .ensures) in
+    (q .put-pairs .ensures .0 ∙ t .end, q .put-pairs .ensures .1 ∙ t .is)
+
+pub put-map-spec : {M : Type 1} → statement M
+put-map-spec =
+    tie.close
+    (tie.spec
+    count-pairs-requires
+    write-map-header-requires
+    put-pairs-requires
+    same-length
+    returns)

@@ -1,0 +1,192 @@
+-- Each refusal in its order, then the bytes. Assumes nothing.
+use mathlib.Core.Path.{_≡_, sym, _∙_}
+use mathlib.Core.Bool.{true}
+use mathlib.Core.Option.{some}
+use Prim.Native.Nat.{ℕ, _≤_}
+use native.Mathlib.Omega.{arith}
+use borrow.Author.Tests.{not-true, not-false}
+use lib.ListN.{length, take}
+use lib.Seq.{length-take-le}
+use Rattle.frames.specs.Codes.{required}
+use Rattle.frame_writing.proofs.Lengths.{capped-within, capped-past}
+use Rattle.frame_writing.proofs.Calls.{Sound, Suited, There, contentsOf, call-8, call-4, call-9, call-10, call-3, call-18, call-0, no-needs, some-needs, form-long}
+use borrow.Author.Needs.{needs}
+use Rattle.frame_writing.proofs.write_frame.Statement.{statement}
+use Rattle.frame_writing.proofs.write_frame.Tie as tie
+
+-- what is known behind each test
+known : (c : tie.After-all-sound)
+    → (let n = c .before .before .before in some (take (n .needs-of .result .count) (n .needs-of .result .keys)) ≡ required (n .before .before .before .args .frame .code))
+known c = let n = c .before .before .before in some-needs (n .needs-of .result) (n .needs-of .ensures .0) (not-false _ (c .before .if1 .left))
+
+whole : (c : tie.After-all-suit) → (let a = c .before .before .before .before .before .before .before .before .args in Sound (a .frame) (a .bytes .now) true)
+whole c = sym (not-false _ (c .before .if2 .left)) ∙ c .before .before .all-sound .ensures
+
+suited : (c : tie.After-holds-all)
+    → (let a = c .before .before .before .before .before .before .before .before .before .before .before .before .args in Suited (a .frame) (a .bytes .now) true)
+suited c = sym (not-false _ (c .before .before .before .if3 .left)) ∙ c .before .before .before .before .all-suit .ensures
+
+there : (c : tie.After-contents-length)
+    → (let n = c .before .before .before .before .before .before .before .before .before .before .before in
+    let a = n .before .before .before .args in
+    There (a .frame) (a .bytes .now) (take (n .needs-of .result .count) (n .needs-of .result .keys)) true)
+there c = sym (not-false _ (c .before .if4 .left)) ∙ c .before .before .holds-all .ensures
+
+sized : (c : tie.After-contents-length) → c .contents-length .result ≤ 60000
+    → (let a = c .before .before .before .before .before .before .before .before .before .before .before .before .before .before .args in
+    c .contents-length .result ≡ length (contentsOf (a .frame) (a .bytes .now)))
+sized c h = let e = c .contents-length .ensures in e ∙ capped-within _ (omega arith)
+
+needs-of-requires : tie.Need-needs-of-requires
+needs-of-requires c κs = search needs
+
+refused-requires : tie.Need-refused-requires
+refused-requires c κs = search needs
+
+returns : tie.Need-returns
+returns c =
+    let n = c .before .before .before in
+    let a = n .before .before .before .args in
+    rw (c .refused .ensures) (call-8 (a .frame) (a .bytes .now) (a .out .now) (no-needs (n .needs-of .result) (n .needs-of .ensures .0) (not-true _ (c .before .if1 .taken))))
+
+all-sound-requires : tie.Need-all-sound-requires
+all-sound-requires c κs = search needs
+
+refused-requires-2 : tie.Need-refused-requires-2
+refused-requires-2 c κs = search needs
+
+returns-2 : tie.Need-returns-2
+returns-2 c =
+    let p = c .before .before in
+    let n = p .before .before .before in
+    let a = n .before .before .before .args in
+    rw (c .refused2 .ensures) (call-4 (a .frame) (a .bytes .now) (a .out .now) (take (n .needs-of .result .count) (n .needs-of .result .keys)) (known p) (sym (not-true _ (c .before .if2 .taken)) ∙ p .all-sound .ensures))
+
+all-suit-requires : tie.Need-all-suit-requires
+all-suit-requires c κs = search needs
+
+refused-requires-3 : tie.Need-refused-requires-3
+refused-requires-3 c κs = search needs
+
+returns-3 : tie.Need-returns-3
+returns-3 c =
+    let q = c .before .before in
+    let p = q .before .before in
+    let n = p .before .before .before in
+    let a = n .before .before .before .args in
+    rw (c .refused3 .ensures) (call-9 (a .frame) (a .bytes .now) (a .out .now) (take (n .needs-of .result .count) (n .needs-of .result .keys)) (known p) (whole q) (sym (not-true _ (c .before .if3 .taken)) ∙ q .all-suit .ensures))
+
+array-share-prefix-keys : tie.Need-array-share-prefix-keys
+array-share-prefix-keys c = search needs
+
+slice-aggregate-holds-all : tie.Need-slice-aggregate-holds-all
+slice-aggregate-holds-all c =
+    let n = c .before .before .before .before .before .before .before .before in
+    sym (length-take-le _ (n .needs-of .result .keys) (n .needs-of .ensures .1))
+
+holds-all-requires : tie.Need-holds-all-requires
+holds-all-requires c κs = search needs
+
+refused-requires-4 : tie.Need-refused-requires-4
+refused-requires-4 c κs = search needs
+
+returns-4 : tie.Need-returns-4
+returns-4 c =
+    let h = c .before .before in
+    let q = h .before .before .before .before in
+    let p = q .before .before in
+    let n = p .before .before .before in
+    let a = n .before .before .before .args in
+    rw (c .refused4 .ensures) (call-10 (a .frame) (a .bytes .now) (a .out .now) (take (n .needs-of .result .count) (n .needs-of .result .keys)) (known p) (whole q) (suited h) (sym (not-true _ (c .before .if4 .taken)) ∙ h .holds-all .ensures))
+
+contents-length-requires : tie.Need-contents-length-requires
+contents-length-requires c κs = search needs
+
+refused-requires-5 : tie.Need-refused-requires-5
+refused-requires-5 c κs = search needs
+
+returns-5 : tie.Need-returns-5
+returns-5 c =
+    let l = c .before .before in
+    let h = l .before .before in
+    let q = h .before .before .before .before in
+    let p = q .before .before in
+    let n = p .before .before .before in
+    let a = n .before .before .before .args in
+    let e = l .contents-length .ensures in
+    rw (c .refused5 .ensures) (call-3 (a .frame) (a .bytes .now) (a .out .now) (take (n .needs-of .result .count) (n .needs-of .result .keys)) (known p) (whole q) (suited h) (there l) (capped-past (length (contentsOf (a .frame) (a .bytes .now))) (omega arith)))
+
+add-if6 : tie.Need-add-if6
+add-if6 c = search needs
+
+refused-requires-6 : tie.Need-refused-requires-6
+refused-requires-6 c κs = search needs
+
+returns-6 : tie.Need-returns-6
+returns-6 c =
+    let l = c .before .before .before in
+    let h = l .before .before in
+    let q = h .before .before .before .before in
+    let p = q .before .before in
+    let n = p .before .before .before in
+    let a = n .before .before .before .args in
+    let e = sized l (c .before .before .if5 .left) in
+    let f = form-long (contentsOf (a .frame) (a .bytes .now)) in
+    rw (c .refused6 .ensures) (call-18 (a .frame) (a .bytes .now) (a .out .now) (take (n .needs-of .result .count) (n .needs-of .result .keys)) (known p) (whole q) (suited h) (there l) (omega arith) (omega arith))
+
+put-frame-requires : tie.Need-put-frame-requires
+put-frame-requires c κs =
+    let l = c .before .before .before in
+    let h = l .before .before in
+    let q = h .before .before .before .before in
+    let p = q .before .before in
+    let n = p .before .before .before in
+    let a = n .before .before .before .args in
+    let e = sized l (c .before .before .if5 .left) in
+    let f = form-long (contentsOf (a .frame) (a .bytes .now)) in
+    (e, omega arith)
+
+same-length : tie.Need-same-length
+same-length c = search needs
+
+returns-7 : tie.Need-returns-7
+returns-7 c =
+    let l = c .before .before .before .before .before .before in
+    let h = l .before .before in
+    let q = h .before .before .before .before in
+    let p = q .before .before in
+    let n = p .before .before .before in
+    let a = n .before .before .before .args in
+    let i = c .before .before .before .before .before .if5 .left in
+    let j = c .before .before .before .before .if6 .left in
+    let e = sized l i in
+    let f = form-long (contentsOf (a .frame) (a .bytes .now)) in
+    call-0 (a .frame) (a .bytes .now) (a .out .now) (take (n .needs-of .result .count) (n .needs-of .result .keys)) (known p) (whole q) (suited h) (there l) (omega arith) (omega arith) (c .before .before .put-frame .ensures)
+
+pub write-frame-spec : {M : Type 1} → statement M
+write-frame-spec =
+    tie.close
+    (tie.spec
+    needs-of-requires
+    refused-requires
+    returns
+    all-sound-requires
+    refused-requires-2
+    returns-2
+    all-suit-requires
+    refused-requires-3
+    returns-3
+    array-share-prefix-keys
+    slice-aggregate-holds-all
+    holds-all-requires
+    refused-requires-4
+    returns-4
+    contents-length-requires
+    refused-requires-5
+    returns-5
+    add-if6
+    refused-requires-6
+    returns-6
+    put-frame-requires
+    same-length
+    returns-7)

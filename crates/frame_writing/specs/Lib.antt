@@ -1,0 +1,2 @@
+-- The steps of writing a frame.
+pub mod Parts

@@ -1,0 +1,245 @@
+// Writing a frame: every refusal before the first byte, then each piece into the rest of the lent buffer.
+use frame_items::Content;
+use frames::Frame;
+use frames::Written;
+ghost use mathlib.Core.Path.{_≡_};
+ghost use mathlib.Core.List.{_∷_};
+ghost use Prim.Native.Nat.{ℕ, _+_, _≤_};
+ghost use lib.ListN.{length};
+ghost use Rattle.frames.specs.Held.{all, suits, encoded, present, Item, locate};
+ghost use Rattle.frames.specs.Keys.{headerItems, bodyItems};
+ghost use Rattle.frames.specs.Writing.{onto, pairs, flat, mapForm, contents, frameForm, sound, Call, frameWriteCall};
+ghost use Rattle.values.specs.Pieces.{joined};
+ghost use Rattle.writing.specs.Forms.{unsignedForm};
+ghost use Rattle.writing.specs.Put.{put, next};
+ghost use Rattle.frame_items.specs.Content.{heldOf, allItems, capped};
+ghost use Rattle.frame_writing.specs.Parts.{itemsBetween, pairBytes, pairOf, refusal};
+
+// 4, over header and body.
+fn all_sound(frame: Frame, bytes: &[u8]) -> bool
+    ensures { λ r. ⌜ r ≡ all (λ (x : Item). sound (x .held)) (allItems frame (now (bytes .entry))) ⌝ }
+{
+    let mut i: usize = 0;
+    while i < 17 {
+        let known = frame_items::known_key(frame, bytes, i);
+        let content = known.content;
+        if !frame_items::is_sound(bytes, content) {
+            return false;
+        }
+        i += 1;
+    }
+    true
+}
+
+// 9, over header and body.
+fn all_suit(frame: Frame, bytes: &[u8]) -> bool
+    ensures { λ r. ⌜ r ≡ all (λ (x : Item). suits (x .rule) (x .held)) (allItems frame (now (bytes .entry))) ⌝ }
+{
+    let mut i: usize = 0;
+    while i < 17 {
+        let known = frame_items::known_key(frame, bytes, i);
+        let rule = known.rule;
+        let content = known.content;
+        if !frame_items::content_suits(bytes, rule, content) {
+            return false;
+        }
+        i += 1;
+    }
+    true
+}
+
+// Whether the body holds a key.
+fn holds(frame: Frame, bytes: &[u8], key: usize) -> bool
+    ensures { λ r. ⌜ r ≡ present (encoded (locate (bodyItems frame (now (bytes .entry))) key)) ⌝ }
+{
+    let mut i: usize = 3;
+    while i < 17 {
+        let known = frame_items::known_key(frame, bytes, i);
+        let content = known.content;
+        if key == known.key as usize {
+            return frame_items::is_written(content);
+        }
+        i += 1;
+    }
+    false
+}
+
+// 10
+fn holds_all(frame: Frame, bytes: &[u8], keys: &[usize]) -> bool
+    ensures { λ r. ⌜ r ≡ all (λ (k : ℕ). present (encoded (locate (bodyItems frame (now (bytes .entry))) k))) (now (keys .entry)) ⌝ }
+{
+    let mut i: usize = 0;
+    while i < keys.len() {
+        if !holds(frame, bytes, keys[i]) {
+            return false;
+        }
+        i += 1;
+    }
+    true
+}
+
+// How many of the keys from one on and up to another are written.
+fn count_pairs(frame: Frame, bytes: &[u8], from: usize, to: usize) -> u32
+    requires { ⌜ (from ≤ to) × (to ≤ 17) ⌝ }
+    ensures { λ r. ⌜ r ≡ length (pairs (itemsBetween from to frame (now (bytes .entry)))) ⌝ }
+{
+    let mut count: u32 = 0;
+    let mut i = from;
+    while i < to {
+        let known = frame_items::known_key(frame, bytes, i);
+        let content = known.content;
+        if frame_items::is_written(content) {
+            count += 1;
+        }
+        i += 1;
+    }
+    count
+}
+
+fn capped_sum(a: usize, b: usize) -> usize
+    requires { ⌜ (a ≤ 60001) × (b ≤ 60001) ⌝ }
+    ensures { λ r. ⌜ r ≡ capped (a + b) ⌝ }
+{
+    if a + b <= 60_000 {
+        return a + b;
+    }
+    60_001
+}
+
+// How long their pairs are.
+fn pairs_length(frame: Frame, bytes: &[u8], from: usize, to: usize) -> usize
+    requires { ⌜ (from ≤ to) × (to ≤ 17) ⌝ }
+    ensures { λ r. ⌜ r ≡ capped (length (pairBytes (itemsBetween from to frame (now (bytes .entry))))) ⌝ }
+{
+    let mut total: usize = 0;
+    let mut i = from;
+    while i < to {
+        let known = frame_items::known_key(frame, bytes, i);
+        let content = known.content;
+        total = capped_sum(total, frame_items::pair_length(bytes, content));
+        i += 1;
+    }
+    total
+}
+
+// A key below 128 is one byte; what it holds follows.
+fn put_number(out: &mut [u8], at: usize, key: u8, n: u64) -> usize
+    requires { ⌜ at + length (key ∷ unsignedForm n) ≤ length (now out) ⌝ }
+    ensures { λ r. ⌜ (r ≡ next at (key ∷ unsignedForm n) (now (out .entry)))
+        × (now (out .exit) ≡ put at (key ∷ unsignedForm n) (now (out .entry))) ⌝ }
+{
+    let a = writing::write_tagged(out, at, key, 0, 0);
+    writing::write_unsigned(out, a, n)
+}
+
+fn put_view(out: &mut [u8], at: usize, key: u8, v: &[u8]) -> usize
+    requires { ⌜ at + length (key ∷ now v) ≤ length (now out) ⌝ }
+    ensures { λ r. ⌜ (r ≡ next at (key ∷ now (v .entry)) (now (out .entry)))
+        × (now (out .exit) ≡ put at (key ∷ now (v .entry)) (now (out .entry))) ⌝ }
+{
+    let a = writing::write_tagged(out, at, key, 0, 0);
+    writing::write_bytes(out, a, v)
+}
+
+// A known key with what it holds; nothing where it is absent.
+fn put_pair(out: &mut [u8], at: usize, key: u8, content: Content, bytes: &[u8]) -> usize
+    requires { ⌜ at + length (pairOf key (encoded (heldOf (now bytes) content))) ≤ length (now out) ⌝ }
+    ensures { λ r. ⌜ (r ≡ next at (pairOf key (encoded (heldOf (now (bytes .entry)) content))) (now (out .entry)))
+        × (now (out .exit) ≡ put at (pairOf key (encoded (heldOf (now (bytes .entry)) content))) (now (out .entry))) ⌝ }
+{
+    match content {
+        Content::Absent => at,
+        Content::Outside => at,
+        Content::Number(n) => put_number(out, at, key, n),
+        Content::View(place) => put_view(out, at, key, frame_fields::view_of(bytes, place)),
+    }
+}
+
+// The pairs of the keys from one on and up to another.
+fn put_pairs(out: &mut [u8], at: usize, frame: Frame, bytes: &[u8], from: usize, to: usize) -> usize
+    requires { ⌜ ((from ≤ to) × (to ≤ 17)) × (at + length (pairBytes (itemsBetween from to frame (now bytes))) ≤ length (now out)) ⌝ }
+    ensures { λ r. ⌜ (r ≡ next at (pairBytes (itemsBetween from to frame (now (bytes .entry)))) (now (out .entry)))
+        × (now (out .exit) ≡ put at (pairBytes (itemsBetween from to frame (now (bytes .entry)))) (now (out .entry))) ⌝ }
+{
+    let mut a = at;
+    let mut i = from;
+    while i < to {
+        let known = frame_items::known_key(frame, bytes, i);
+        let content = known.content;
+        a = put_pair(out, a, known.key, content, bytes);
+        i += 1;
+    }
+    a
+}
+
+// A whole map of them, with its header.
+fn put_map(out: &mut [u8], at: usize, frame: Frame, bytes: &[u8], from: usize, to: usize) -> usize
+    requires { ⌜ ((from ≤ to) × (to ≤ 17)) × (at + length (mapForm (pairs (itemsBetween from to frame (now bytes)))) ≤ length (now out)) ⌝ }
+    ensures { λ r. ⌜ (r ≡ next at (mapForm (pairs (itemsBetween from to frame (now (bytes .entry))))) (now (out .entry)))
+        × (now (out .exit) ≡ put at (mapForm (pairs (itemsBetween from to frame (now (bytes .entry))))) (now (out .entry))) ⌝ }
+{
+    let count = count_pairs(frame, bytes, from, to);
+    let a = writing::write_map_header(out, at, count);
+    put_pairs(out, a, frame, bytes, from, to)
+}
+
+// Size, header, body.
+fn put_frame(out: &mut [u8], frame: Frame, bytes: &[u8], size: usize) -> usize
+    requires { ⌜ (size ≡ length (contents (headerItems frame) (bodyItems frame (now bytes))))
+        × (length (frameForm (contents (headerItems frame) (bodyItems frame (now bytes)))) ≤ length (now out)) ⌝ }
+    ensures { λ r. ⌜ (r ≡ next 0 (frameForm (contents (headerItems frame) (bodyItems frame (now (bytes .entry))))) (now (out .entry)))
+        × (now (out .exit) ≡ put 0 (frameForm (contents (headerItems frame) (bodyItems frame (now (bytes .entry))))) (now (out .entry))) ⌝ }
+{
+    let a = writing::write_tagged(out, 0, 0xce, size as u64, 4);
+    let b = put_map(out, a, frame, bytes, 0, 3);
+    put_map(out, b, frame, bytes, 3, 17)
+}
+
+// How long header and body are, each with a header of one byte; counted up to 60,001.
+fn contents_length(frame: Frame, bytes: &[u8]) -> usize
+    ensures { λ r. ⌜ r ≡ capped (length (contents (headerItems frame) (bodyItems frame (now (bytes .entry))))) ⌝ }
+{
+    let header = pairs_length(frame, bytes, 0, 3);
+    let body = pairs_length(frame, bytes, 3, 17);
+    if header + body <= 59_998 {
+        return header + body + 2;
+    }
+    60_001
+}
+
+fn refused(number: u32) -> Written
+    ensures { λ r. ⌜ r ≡ refusal number ⌝ }
+{
+    Written { number, length: 0 }
+}
+
+// The record's frame at the front of `out`, its values copied from `bytes`: 8, 4, 9, 10, 3, 18, then the bytes.
+pub fn write_frame(frame: Frame, bytes: &[u8], out: &mut [u8]) -> Written
+    ensures { λ r. ⌜ _≡_ {A = Call} (record { number = r .number; length = r .length; buffer = now (out .exit) })
+        (frameWriteCall frame (now (bytes .entry)) (now (out .entry))) ⌝ }
+{
+    let needs = frame_rules::needs_of(frame.code);
+    if !needs.known {
+        return refused(8);
+    }
+    if !all_sound(frame, bytes) {
+        return refused(4);
+    }
+    if !all_suit(frame, bytes) {
+        return refused(9);
+    }
+    let keys = needs.keys;
+    let count = needs.count;
+    if !holds_all(frame, bytes, &keys[..count]) {
+        return refused(10);
+    }
+    let size = contents_length(frame, bytes);
+    if 60_000 < size {
+        return refused(3);
+    }
+    if out.len() < size + 5 {
+        return refused(18);
+    }
+    let length = put_frame(out, frame, bytes, size);
+    Written { number: 0, length }
+}
