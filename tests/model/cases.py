@@ -13,7 +13,7 @@ import damaged_values
 import frame_cases
 import values
 
-CALLS = {"v": lambda line: values.line(line.split("\t")[1]), "f": frame_cases.answer}
+CALLS = {"v": lambda line: values.line(line.split("\t")[1]), "f": frame_cases.answer, "w": frame_cases.answer}
 
 
 def lines():

@@ -1,9 +1,12 @@
-// A frame read.
+// A frame read, and a record written.
 use crate::text::print;
+use crate::text::print_buffer;
 use crate::text::print_number;
 use frames::Frame;
 use frames::OptionalNumber;
 use frames::Place;
+use values::Number;
+ghost use Prim.Native.Nat.{_≤_};
 
 fn print_optional(n: OptionalNumber) {
     if n.present {
@@ -70,5 +73,66 @@ pub(crate) fn print_read(bytes: &[u8]) {
     print_number(answer.length);
     print_numbers(frame);
     print_places(frame);
+    print(b"\n");
+}
+
+fn number_in(record: &[u8], at: usize, width: usize) -> u64 {
+    match values::number_at(record, at, width) {
+        Number::Is(n) => n,
+        Number::Missing => 0,
+    }
+}
+
+// A byte that says whether the number is there, and its eight bytes.
+fn optional_in(record: &[u8], at: usize) -> OptionalNumber
+    requires { ⌜ at ≤ 1000 ⌝ }
+{
+    OptionalNumber {
+        present: number_in(record, at, 1) == 1,
+        value: number_in(record, at + 1, 8),
+    }
+}
+
+fn place_in(record: &[u8], at: usize) -> Place
+    requires { ⌜ at ≤ 1000 ⌝ }
+{
+    Place {
+        present: number_in(record, at, 1) == 1,
+        start: number_in(record, at + 1, 8) as usize,
+        length: number_in(record, at + 9, 8) as usize,
+    }
+}
+
+// The record of a line: the code, the numbers, the places, each of a fixed width.
+fn frame_in(record: &[u8]) -> Frame {
+    Frame {
+        code: number_in(record, 0, 8),
+        sync: optional_in(record, 8),
+        schema_version: optional_in(record, 17),
+        space: optional_in(record, 26),
+        index: optional_in(record, 35),
+        limit: optional_in(record, 44),
+        offset: optional_in(record, 53),
+        iterator: optional_in(record, 62),
+        index_base: optional_in(record, 71),
+        key: place_in(record, 80),
+        tuple: place_in(record, 97),
+        function: place_in(record, 114),
+        user: place_in(record, 131),
+        expression: place_in(record, 148),
+        ops: place_in(record, 165),
+        data: place_in(record, 182),
+        error: place_in(record, 199),
+    }
+}
+
+// The buffer holds 5a in every byte before it is lent.
+pub(crate) fn print_write(record: &[u8], bytes: &[u8], out: &mut [u8]) {
+    crate::text::fill(out, 0, 0x5a, out.len());
+    let written = frame_writing::write_frame(frame_in(record), bytes, out);
+    print(b"w");
+    print_number(written.number as usize);
+    print_number(written.length);
+    print_buffer(out, written.length);
     print(b"\n");
 }

@@ -34,6 +34,30 @@ fn print_frame(line: &[u8]) {
     frame_cases::print_read(&bytes[0..n]);
 }
 
+// Where the field after the one at `at` begins.
+fn after(line: &[u8], at: usize) -> usize
+    requires { ⌜ at ≤ length (now line) ⌝ }
+    ensures { λ r. ⌜ r ≤ length (now (line .entry)) ⌝ }
+{
+    let end = find(line, at, b'\t');
+    if end < line.len() { end + 1 } else { end }
+}
+
+// w: a record, the bytes of its places, and the room of the lent buffer, to be written as a frame.
+fn print_written(line: &[u8]) {
+    let mut record = [0u8; 256];
+    let mut bytes = [0u8; 61440];
+    let mut out = [0u8; 61440];
+    let at_bytes = after(line, 0);
+    let at_room = after(line, at_bytes);
+    let n = text::expand(field(line, 0), &mut record);
+    let m = text::expand(field(line, at_bytes), &mut bytes);
+    let room = text::decimal_at(line, at_room);
+    if room <= 61440 {
+        frame_cases::print_write(&record[0..n], &bytes[0..m], &mut out[0..room]);
+    }
+}
+
 // A letter for the call, a tab, and its fields.
 fn print_line(line: &[u8]) {
     if line.len() < 2 {
@@ -44,6 +68,7 @@ fn print_line(line: &[u8]) {
     match call {
         b'v' => print_value(fields),
         b'f' => print_frame(fields),
+        b'w' => print_written(fields),
         _ => text::print(b"?\n"),
     }
 }
