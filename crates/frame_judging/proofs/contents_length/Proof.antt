@@ -1,11 +1,11 @@
 -- Both maps. Assumes nothing.
 use mathlib.Core.Path.{_≡_, refl, sym, ap, _∙_}
 use Prim.Native.Nat.{ℕ, _+_, _-_, _≤_}
-use Rattle.frame_writing.proofs.Lengths.{capped-few, contents-counted, contents-past}
+use Rattle.frame_judging.proofs.Lengths.{capped-few, contents-counted, contents-past}
 use borrow.Author.Needs.{needs}
 use native.Mathlib.Omega.{arith}
-use Rattle.frame_writing.proofs.contents_length.Statement.{statement}
-use Rattle.frame_writing.proofs.contents_length.Tie as tie
+use Rattle.frame_judging.proofs.contents_length.Statement.{statement}
+use Rattle.frame_judging.proofs.contents_length.Tie as tie
 
 pairs-length-requires : tie.Need-pairs-length-requires
 pairs-length-requires c κs = search needs

@@ -8,8 +8,8 @@ use Rattle.frames.specs.Keys.{bodyItems}
 use Rattle.frame_fields.proofs.Laws.{all-fails, all-goes-on}
 use borrow.Author.Needs.{needs}
 use native.Mathlib.Omega.{arith}
-use Rattle.frame_writing.proofs.holds_all.Statement.{statement}
-use Rattle.frame_writing.proofs.holds_all.Tie as tie
+use Rattle.frame_judging.proofs.holds_all.Statement.{statement}
+use Rattle.frame_judging.proofs.holds_all.Tie as tie
 
 abbrev Inv-loop : tie.InvT-loop
 Inv-loop frame bytes keys i₀ i = (i ≤ length keys) × (all (λ (k : ℕ). present (encoded (locate (bodyItems frame bytes) k))) (drop i keys) ≡ all (λ (k : ℕ). present (encoded (locate (bodyItems frame bytes) k))) keys)

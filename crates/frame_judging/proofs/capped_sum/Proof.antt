@@ -3,8 +3,8 @@ use Prim.Native.Nat.{_+_}
 use Rattle.frame_items.proofs.Laws.{capped-low, capped-high}
 use native.Mathlib.Omega.{arith}
 use borrow.Author.Needs.{needs}
-use Rattle.frame_writing.proofs.capped_sum.Statement.{statement}
-use Rattle.frame_writing.proofs.capped_sum.Tie as tie
+use Rattle.frame_judging.proofs.capped_sum.Statement.{statement}
+use Rattle.frame_judging.proofs.capped_sum.Tie as tie
 
 add-if1 : tie.Need-add-if1
 add-if1 c = search needs

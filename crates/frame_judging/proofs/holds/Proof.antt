@@ -5,12 +5,12 @@ use mathlib.Core.List.{List, [], _∷_}
 use Rattle.frames.specs.Held.{Held, encoded, present, Item, locate}
 use Rattle.frames.specs.Keys.{bodyItems}
 use Rattle.frame_items.specs.Content.{itemOf}
-use Rattle.frame_writing.specs.Parts.{itemsBetween}
-use Rattle.frame_writing.proofs.Runs.{run, no-run, body-run, locate-here, locate-on, is-present}
+use Rattle.frame_judging.specs.Parts.{itemsBetween}
+use Rattle.frame_judging.proofs.Runs.{run, no-run, body-run, locate-here, locate-on, is-present}
 use borrow.Author.Needs.{needs}
 use native.Mathlib.Omega.{arith}
-use Rattle.frame_writing.proofs.holds.Statement.{statement}
-use Rattle.frame_writing.proofs.holds.Tie as tie
+use Rattle.frame_judging.proofs.holds.Statement.{statement}
+use Rattle.frame_judging.proofs.holds.Tie as tie
 
 abbrev Inv-loop : tie.InvT-loop
 Inv-loop frame bytes key i₀ i = (i ≤ 17) × (locate (itemsBetween i 17 frame bytes) key ≡ locate (bodyItems frame bytes) key)

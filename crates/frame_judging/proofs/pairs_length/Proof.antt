@@ -3,13 +3,13 @@ use mathlib.Core.Path.{_≡_, refl, sym, ap, _∙_}
 use Prim.Native.Nat.{ℕ, _+_, _-_, _≤_}
 use lib.ListN.{length}
 use Rattle.frame_items.specs.Content.{capped}
-use Rattle.frame_writing.specs.Parts.{itemsBetween, pairBytes}
-use Rattle.frame_writing.proofs.Runs.{run, no-run}
-use Rattle.frame_writing.proofs.Lengths.{capped-few, pair-counted, all-counted}
+use Rattle.frame_judging.specs.Parts.{itemsBetween, pairBytes}
+use Rattle.frame_judging.proofs.Runs.{run, no-run}
+use Rattle.frame_judging.proofs.Lengths.{capped-few, pair-counted, all-counted}
 use borrow.Author.Needs.{needs}
 use native.Mathlib.Omega.{arith}
-use Rattle.frame_writing.proofs.pairs_length.Statement.{statement}
-use Rattle.frame_writing.proofs.pairs_length.Tie as tie
+use Rattle.frame_judging.proofs.pairs_length.Statement.{statement}
+use Rattle.frame_judging.proofs.pairs_length.Tie as tie
 
 abbrev Inv-loop : tie.InvT-loop
 Inv-loop frame bytes from to total₀ i₀ total i = (i ≤ to) × ((total ≤ 60001) × (capped (total + length (pairBytes (itemsBetween i to frame bytes))) ≡ capped (length (pairBytes (itemsBetween from to frame bytes)))))

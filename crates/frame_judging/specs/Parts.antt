@@ -6,7 +6,6 @@ use lib.Seq.{slice}
 use Rattle.first_bytes.specs.Bytes.{Bytes}
 use Rattle.values.specs.Pieces.{joined}
 use Rattle.frames.specs.declared.Frame.{Frame}
-use Rattle.frames.specs.declared.Written.{Written}
 use Rattle.frames.specs.Held.{Item}
 use Rattle.frames.specs.Writing.{pairs, flat}
 use Rattle.frame_items.specs.Content.{allItems}
@@ -23,7 +22,3 @@ pairOf k (some v) = k ∷ v
 -- the pairs of items, one after the other
 unfoldable pub pairBytes : List Item → Bytes
 pairBytes xs = joined (flat (pairs xs))
-
--- "A refusal answers its number, with length 0"
-abbrev pub refusal : ℕ → Written
-refusal n = record { number = n; length = 0 }

@@ -5,28 +5,28 @@ use borrow.Author.Tests.{not-true, not-false}
 use Rattle.frames.specs.Held.{all, suits, Item}
 use Rattle.frames.specs.Writing.{sound}
 use Rattle.frame_items.specs.Content.{itemOf, allItems}
-use Rattle.frame_writing.specs.Parts.{itemsBetween}
-use Rattle.frame_writing.proofs.Runs.{run, no-run, whole-run, all-stops, all-goes-on}
+use Rattle.frame_judging.specs.Parts.{itemsBetween}
+use Rattle.frame_judging.proofs.Runs.{run, no-run, whole-run, all-stops, all-goes-on}
 use mathlib.Core.List.{List, [], _∷_}
 use borrow.Author.Needs.{needs}
 use native.Mathlib.Omega.{arith}
-use Rattle.frame_writing.proofs.all_suit.Statement.{statement}
-use Rattle.frame_writing.proofs.all_suit.Tie as tie
+use Rattle.frame_judging.proofs.all_sound.Statement.{statement}
+use Rattle.frame_judging.proofs.all_sound.Tie as tie
 
 abbrev Inv-loop : tie.InvT-loop
-Inv-loop frame bytes i₀ i = (i ≤ 17) × (all (λ (x : Item). suits (x .rule) (x .held)) (itemsBetween i 17 frame bytes) ≡ all (λ (x : Item). suits (x .rule) (x .held)) (allItems frame bytes))
+Inv-loop frame bytes i₀ i = (i ≤ 17) × (all (λ (x : Item). sound (x .held)) (itemsBetween i 17 frame bytes) ≡ all (λ (x : Item). sound (x .held)) (allItems frame bytes))
 
 abbrev μ-loop : tie.MeasureT-loop
 μ-loop frame bytes i₀ i = 17 - i
 
 loop-holds : tie.Need-loop-holds Inv-loop μ-loop
-loop-holds c = let a = c .before .args in (omega arith, ap (all (λ (x : Item). suits (x .rule) (x .held))) (whole-run (a .frame) (a .bytes .now)))
+loop-holds c = let a = c .before .args in (omega arith, ap (all (λ (x : Item). sound (x .held))) (whole-run (a .frame) (a .bytes .now)))
 
 known-key-requires : tie.Need-known-key-requires Inv-loop μ-loop
 known-key-requires c κs = search needs
 
-content-suits-requires : tie.Need-content-suits-requires Inv-loop μ-loop
-content-suits-requires c κs = search needs
+is-sound-requires : tie.Need-is-sound-requires Inv-loop μ-loop
+is-sound-requires c κs = search needs
 
 returns : tie.Need-returns Inv-loop μ-loop
 unfolding itemOf
@@ -34,7 +34,7 @@ returns c =
     let k = c .before .before in
     let l = k .before .before .loop in
     let a = k .before .before .before .before .args in
-    sym (all-stops (λ (x : Item). suits (x .rule) (x .held)) (run (a .frame) (a .bytes .now) (l .i) 17 (k .known-key .result) (k .known-key .ensures) (k .before .loop-test .taken) (omega arith)) (sym (c .before .content-suits .ensures) ∙ not-true _ (c .if1 .taken))) ∙ l .inv .1
+    sym (all-stops (λ (x : Item). sound (x .held)) (run (a .frame) (a .bytes .now) (l .i) 17 (k .known-key .result) (k .known-key .ensures) (k .before .loop-test .taken) (omega arith)) (sym (c .before .is-sound .ensures) ∙ not-true _ (c .if1 .taken))) ∙ l .inv .1
 
 add-i : tie.Need-add-i Inv-loop μ-loop
 add-i c = omega arith
@@ -48,7 +48,7 @@ loop-again c =
     let k = c .before .before in
     let l = k .before .before .loop in
     let a = k .before .before .before .before .args in
-    (omega arith, all-goes-on (λ (x : Item). suits (x .rule) (x .held)) (run (a .frame) (a .bytes .now) (l .i) 17 (k .known-key .result) (k .known-key .ensures) (k .before .loop-test .taken) (omega arith)) (sym (c .before .content-suits .ensures) ∙ not-false _ (c .if1 .left)) ∙ l .inv .1)
+    (omega arith, all-goes-on (λ (x : Item). sound (x .held)) (run (a .frame) (a .bytes .now) (l .i) 17 (k .known-key .result) (k .known-key .ensures) (k .before .loop-test .taken) (omega arith)) (sym (c .before .is-sound .ensures) ∙ not-false _ (c .if1 .left)) ∙ l .inv .1)
 
 returns-2 : tie.Need-returns-2 Inv-loop μ-loop
 unfolding all
@@ -57,15 +57,15 @@ returns-2 c =
     let a = c .before .before .before .args in
     rw (no-run (a .frame) (a .bytes .now) (l .i) 17 (omega arith) (omega arith)) at (l .inv .1)
 
-pub all-suit-spec : {M : Type 1} → statement M
-all-suit-spec =
+pub all-sound-spec : {M : Type 1} → statement M
+all-sound-spec =
     tie.close
     (tie.spec
     Inv-loop
     μ-loop
     loop-holds
     known-key-requires
-    content-suits-requires
+    is-sound-requires
     returns
     add-i
     loop-less
