@@ -1,23 +1,20 @@
 -- A loop over the known keys: the first of those left, and the rest. Assumes nothing.
 use mathlib.Core.Path.{_≡_, refl, sym, ap, _∙_}
-use mathlib.Core.Bool.{Bool, true, false, _&&_}
+use mathlib.Core.Bool.{Bool, true, false}
 use mathlib.Core.List.{List, [], _∷_, _++_}
 use mathlib.Core.Option.{Option, none, some}
 use Prim.Native.Nat.{ℕ, suc, _+_, _<_, _≤_}
 use native.Mathlib.Omega.{arith}
 use native.Mathlib.Numerals.{add-one}
 use borrow.Author.Tests.{eq-eqb, ne-eqb}
-use lib.ListN.{length, getD, length-append}
+use lib.ListN.{length, getD}
 use lib.Seq.{slice, slice-empty, slice-cons}
 use Rattle.first_bytes.specs.Bytes.{Bytes}
 use Rattle.values.specs.Pieces.{joined}
-use Rattle.writing.specs.Forms.{tagged, mapHeader}
-use Rattle.writing.specs.Put.{put, next}
-use Rattle.writing.proofs.Put.{Wrote, wrote, written, join, nothing, length-put}
 use Rattle.frames.specs.declared.Frame.{Frame}
-use Rattle.frames.specs.Held.{all, Held, encoded, present, Item, locate}
+use Rattle.frames.specs.Held.{all, encoded, present, Item, locate}
 use Rattle.frames.specs.Keys.{headerItems, bodyItems}
-use Rattle.frames.specs.Writing.{Pair, onto, pairs, flat, mapForm, contents, frameForm}
+use Rattle.frames.specs.Writing.{Pair, onto, pairs, flat}
 use Rattle.frame_items.specs.Content.{heldOf, itemOf, allItems, blank, isWritten, pairLength}
 use Rattle.frame_items.specs.declared.Content.{Content}
 use Rattle.frame_items.specs.declared.Content.the-variants.{Absent, Outside, Number, View}

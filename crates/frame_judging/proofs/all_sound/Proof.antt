@@ -1,13 +1,12 @@
 -- One key after the other. Assumes nothing.
-use mathlib.Core.Path.{_≡_, refl, sym, ap, _∙_}
-use Prim.Native.Nat.{ℕ, _+_, _-_, _≤_}
+use mathlib.Core.Path.{_≡_, sym, ap, _∙_}
+use Prim.Native.Nat.{_-_, _≤_}
 use borrow.Author.Tests.{not-true, not-false}
-use Rattle.frames.specs.Held.{all, suits, Item}
+use Rattle.frames.specs.Held.{all, Item}
 use Rattle.frames.specs.Writing.{sound}
 use Rattle.frame_items.specs.Content.{itemOf, allItems}
 use Rattle.frame_judging.specs.Parts.{itemsBetween}
 use Rattle.frame_judging.proofs.Runs.{run, no-run, whole-run, all-stops, all-goes-on}
-use mathlib.Core.List.{List, [], _∷_}
 use borrow.Author.Needs.{needs}
 use native.Mathlib.Omega.{arith}
 use Rattle.frame_judging.proofs.all_sound.Statement.{statement}

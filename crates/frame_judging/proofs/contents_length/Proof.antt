@@ -1,6 +1,5 @@
 -- Both maps. Assumes nothing.
-use mathlib.Core.Path.{_≡_, refl, sym, ap, _∙_}
-use Prim.Native.Nat.{ℕ, _+_, _-_, _≤_}
+use Prim.Native.Nat.{_≤_}
 use Rattle.frame_judging.proofs.Lengths.{capped-few, contents-counted, contents-past}
 use borrow.Author.Needs.{needs}
 use native.Mathlib.Omega.{arith}

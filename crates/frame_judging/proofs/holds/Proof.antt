@@ -1,7 +1,7 @@
 -- The key, or the next. Assumes nothing.
-use mathlib.Core.Path.{_≡_, refl, sym, ap, _∙_}
-use Prim.Native.Nat.{ℕ, _+_, _-_, _≤_}
-use mathlib.Core.List.{List, [], _∷_}
+use mathlib.Core.Path.{_≡_, ap, _∙_}
+use Prim.Native.Nat.{_-_, _≤_}
+use mathlib.Core.List.{List}
 use Rattle.frames.specs.Held.{Held, encoded, present, Item, locate}
 use Rattle.frames.specs.Keys.{bodyItems}
 use Rattle.frame_items.specs.Content.{itemOf}

@@ -1,6 +1,6 @@
 -- One key after the other. Assumes nothing.
-use mathlib.Core.Path.{_≡_, refl, sym, ap, _∙_}
-use Prim.Native.Nat.{ℕ, _+_, _-_, _≤_}
+use mathlib.Core.Path.{_≡_, ap, _∙_}
+use Prim.Native.Nat.{_+_, _-_, _≤_}
 use lib.ListN.{length}
 use Rattle.frame_items.specs.Content.{capped}
 use Rattle.frame_judging.specs.Parts.{itemsBetween, pairBytes}

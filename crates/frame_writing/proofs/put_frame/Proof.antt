@@ -1,6 +1,5 @@
 -- The size, then the two maps. Assumes nothing.
-use mathlib.Core.Path.{_≡_, refl, sym, ap, _∙_}
-use Prim.Native.Nat.{ℕ, _+_, _-_, _≤_}
+use mathlib.Core.Path.{refl, _∙_}
 use Rattle.frame_writing.proofs.Turns.{headerForm, bodyForm, size-turn, turn-on, first-room}
 use native.Mathlib.Omega.{arith}
 use borrow.Author.Needs.{needs}

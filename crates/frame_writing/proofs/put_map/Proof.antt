@@ -1,6 +1,5 @@
 -- The header, then the pairs. Assumes nothing.
-use mathlib.Core.Path.{_≡_, refl, sym, ap, _∙_}
-use Prim.Native.Nat.{ℕ, _+_, _-_, _≤_}
+use mathlib.Core.Path.{_∙_}
 use Rattle.writing.specs.Forms.{mapHeader}
 use Rattle.frame_judging.specs.Parts.{itemsBetween}
 use Rattle.frame_writing.proofs.Turns.{map-first, turn}

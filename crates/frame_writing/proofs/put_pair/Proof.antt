@@ -1,5 +1,4 @@
 -- By the content. Assumes nothing.
-use mathlib.Core.Path.{_≡_, refl, sym, ap, _∙_}
 use Rattle.frames.specs.Held.{encoded}
 use Rattle.frame_items.specs.Content.{heldOf}
 use Rattle.frame_judging.specs.Parts.{pairOf}

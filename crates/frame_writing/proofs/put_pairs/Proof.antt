@@ -1,7 +1,6 @@
 -- One pair after the other. Assumes nothing.
-use mathlib.Core.Path.{_≡_, refl, sym, ap, _∙_}
-use Prim.Native.Nat.{ℕ, _+_, _-_, _≤_}
-use lib.ListN.{length}
+use mathlib.Core.Path.{ap}
+use Prim.Native.Nat.{_-_, _≤_}
 use Rattle.values.specs.Pieces.{joined}
 use Rattle.frames.specs.Held.{encoded}
 use Rattle.frames.specs.Writing.{pairs, flat}
