@@ -12,7 +12,7 @@ from frames import BODY, NUMBERS, PLACES, map_of, shortest
 from notation import packed, shown, unpacked
 
 NAMES = ["sync", "schema_version", "space", "index", "limit", "offset", "iterator", "index_base"]
-SELECT = bytes.fromhex("ce0000001b82000101 04861 0cd0200110012ceffffffff13001400209 1cd0118".replace(" ", ""))
+SELECT = bytes.fromhex("ce0000001b8201040001" "8610cd0200110014001300" "12ceffffffff2091cd0118")
 
 
 def sized(contents):
@@ -46,6 +46,8 @@ def body(keys, **changed):
 def to_read():
     yield SELECT, "the select of 001"
     yield SELECT + b"\xce", "the same and one byte"
+    yield bytes.fromhex("ce00000020" "8300ce0000000001cf0000000000000053" "05ce00000068" "8130dd00000001" "9106"), "the response to an insert of 001"
+    yield sized(bytes.fromhex("810000" "8326810106" "5a14" "5331")), "a heartbeat's answer of 001, with a size"
     for n in range(len(SELECT)):
         yield SELECT[:n], "the same cut to %d" % n
     for name in ("requests", "responses"):

@@ -148,3 +148,39 @@ pub(crate) fn expand(text: &[u8], out: &mut [u8]) -> usize
     }
     n
 }
+
+// The Adler-32 sum of bytes.
+fn adler(s: &[u8]) -> u64 {
+    let mut low: u64 = 1;
+    let mut high: u64 = 0;
+    let mut i: usize = 0;
+    while i < s.len() {
+        low = (low + s[i] as u64) % 65_521;
+        high = (high + low) % 65_521;
+        i += 1;
+    }
+    high * 65_536 + low
+}
+
+// The first `n` bytes, at most 48.
+fn print_front(s: &[u8], n: usize) {
+    let mut i: usize = 0;
+    while i < s.len() {
+        if n <= i {
+            return;
+        }
+        if 48 <= i {
+            return;
+        }
+        io::print_hex(STDOUT_FILENO, s[i] as u64, 2);
+        i += 1;
+    }
+}
+
+// A lent buffer afterwards: the sum of it all, and the first of the `n` bytes written.
+pub(crate) fn print_buffer(out: &[u8], n: usize) {
+    print(b"\t");
+    io::print_hex(STDOUT_FILENO, adler(out), 8);
+    print(b"\t");
+    print_front(out, n);
+}

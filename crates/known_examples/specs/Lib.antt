@@ -1,0 +1,2 @@
+-- The table of known examples.
+pub mod Table
