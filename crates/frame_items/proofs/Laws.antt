@@ -1,11 +1,10 @@
 -- What the code's own account of a known key says of the record's items. Assumes nothing.
 use mathlib.Core.Path.{_≡_, refl, sym, ap, _∙_}
 use mathlib.Core.Bool.{Bool, true, false}
-use mathlib.Core.List.{List, [], _∷_}
-use Prim.Native.Nat.{ℕ, zero, suc, _+_, _-_, _<_, _≤_}
+use Prim.Native.Nat.{ℕ, zero, suc, _+_, _<_, _≤_}
 use native.Mathlib.Omega.{arith}
-use borrow.Author.Tests.{le-leb, lt-leb, eq-eqb, ne-eqb, not-true}
-use lib.Dec.{leb, eqb}
+use borrow.Author.Tests.{le-leb, lt-leb}
+use lib.Dec.{eqb}
 use lib.ListN.{length, getD, List·getD-eq-default}
 use Rattle.first_bytes.specs.Bytes.{Bytes, pick}
 use Rattle.values.specs.Value.{value, shift}
@@ -14,14 +13,13 @@ use Rattle.values.specs.declared.Read.the-variants.{Whole, Broken}
 use Rattle.frames.specs.declared.Frame.{Frame}
 use Rattle.frames.specs.declared.OptionalNumber.{OptionalNumber}
 use Rattle.frames.specs.declared.Place.{Place}
-use Rattle.frames.specs.declared.Rule.the-variants.{AtMost, Anything}
+use Rattle.frames.specs.declared.Rule.the-variants.{AtMost}
 use Rattle.frames.specs.Limits.{maxSize}
-use Rattle.frames.specs.Held.{Held, absent, outside, number, bytes, numberHeld, placeHeld, Item, item}
+use Rattle.frames.specs.Held.{absent, outside, number, numberHeld, placeHeld, Item, item}
 use Rattle.frames.specs.Keys.{headerItems, bodyItems}
 use Rattle.frames.specs.Writing.{isWhole}
 use Rattle.frame_items.specs.Content.{heldOf, itemOf, allItems, blank, numberKey, capped}
-use Rattle.frame_items.specs.declared.Content.{Content}
-use Rattle.frame_items.specs.declared.Content.the-variants.{Absent, Outside, Number, View}
+use Rattle.frame_items.specs.declared.Content.the-variants.{Absent, Number, View}
 use Rattle.frame_items.specs.declared.KnownKey.{KnownKey}
 
 impossible : {A : Type 0} → _≡_ {A = ℕ} 0 1 → A

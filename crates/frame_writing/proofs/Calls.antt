@@ -9,9 +9,8 @@ use borrow.Author.Tests.{le-leb, lt-leb}
 use lib.ListN.{length, take, drop, length-append}
 use Rattle.first_bytes.specs.Bytes.{Bytes}
 use Rattle.writing.specs.Put.{put, next}
-use Rattle.writing.specs.Forms.{tagged}
 use Rattle.writing.proofs.Lengths.{length-tagged}
-use Rattle.writing.proofs.Put.{Wrote, wrote}
+use Rattle.writing.proofs.Put.{wrote}
 use Rattle.frames.specs.declared.Frame.{Frame}
 use Rattle.frames.specs.Limits.{maxSize}
 use Rattle.frames.specs.Held.{all, suits, encoded, present, Item, locate}

@@ -1,4 +1,3 @@
 -- The laws of writing a frame.
-pub mod Runs
-pub mod Lengths
+pub mod Turns
 pub mod Calls

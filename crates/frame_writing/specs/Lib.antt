@@ -1,2 +1,2 @@
--- The steps of writing a frame.
-pub mod Parts
+-- What writing a frame answers.
+pub mod Answer

@@ -4,79 +4,16 @@ use frames::Frame;
 use frames::Written;
 ghost use mathlib.Core.Path.{_≡_};
 ghost use mathlib.Core.List.{_∷_};
-ghost use Prim.Native.Nat.{ℕ, _+_, _≤_};
+ghost use Prim.Native.Nat.{_+_, _≤_};
 ghost use lib.ListN.{length};
-ghost use Rattle.frames.specs.Held.{all, suits, encoded, present, Item, locate};
+ghost use Rattle.frames.specs.Held.{encoded};
 ghost use Rattle.frames.specs.Keys.{headerItems, bodyItems};
-ghost use Rattle.frames.specs.Writing.{onto, pairs, flat, mapForm, contents, frameForm, sound, Call, frameWriteCall};
-ghost use Rattle.values.specs.Pieces.{joined};
+ghost use Rattle.frames.specs.Writing.{pairs, mapForm, contents, frameForm, Call, frameWriteCall};
 ghost use Rattle.writing.specs.Forms.{unsignedForm};
 ghost use Rattle.writing.specs.Put.{put, next};
-ghost use Rattle.frame_items.specs.Content.{heldOf, allItems, capped};
-ghost use Rattle.frame_writing.specs.Parts.{itemsBetween, pairBytes, pairOf, refusal};
-
-// 4, over header and body.
-fn all_sound(frame: Frame, bytes: &[u8]) -> bool
-    ensures { λ r. ⌜ r ≡ all (λ (x : Item). sound (x .held)) (allItems frame (now (bytes .entry))) ⌝ }
-{
-    let mut i: usize = 0;
-    while i < 17 {
-        let known = frame_items::known_key(frame, bytes, i);
-        let content = known.content;
-        if !frame_items::is_sound(bytes, content) {
-            return false;
-        }
-        i += 1;
-    }
-    true
-}
-
-// 9, over header and body.
-fn all_suit(frame: Frame, bytes: &[u8]) -> bool
-    ensures { λ r. ⌜ r ≡ all (λ (x : Item). suits (x .rule) (x .held)) (allItems frame (now (bytes .entry))) ⌝ }
-{
-    let mut i: usize = 0;
-    while i < 17 {
-        let known = frame_items::known_key(frame, bytes, i);
-        let rule = known.rule;
-        let content = known.content;
-        if !frame_items::content_suits(bytes, rule, content) {
-            return false;
-        }
-        i += 1;
-    }
-    true
-}
-
-// Whether the body holds a key.
-fn holds(frame: Frame, bytes: &[u8], key: usize) -> bool
-    ensures { λ r. ⌜ r ≡ present (encoded (locate (bodyItems frame (now (bytes .entry))) key)) ⌝ }
-{
-    let mut i: usize = 3;
-    while i < 17 {
-        let known = frame_items::known_key(frame, bytes, i);
-        let content = known.content;
-        if key == known.key as usize {
-            return frame_items::is_written(content);
-        }
-        i += 1;
-    }
-    false
-}
-
-// 10
-fn holds_all(frame: Frame, bytes: &[u8], keys: &[usize]) -> bool
-    ensures { λ r. ⌜ r ≡ all (λ (k : ℕ). present (encoded (locate (bodyItems frame (now (bytes .entry))) k))) (now (keys .entry)) ⌝ }
-{
-    let mut i: usize = 0;
-    while i < keys.len() {
-        if !holds(frame, bytes, keys[i]) {
-            return false;
-        }
-        i += 1;
-    }
-    true
-}
+ghost use Rattle.frame_items.specs.Content.{heldOf};
+ghost use Rattle.frame_judging.specs.Parts.{itemsBetween, pairBytes, pairOf};
+ghost use Rattle.frame_writing.specs.Answer.{refusal};
 
 // How many of the keys from one on and up to another are written.
 fn count_pairs(frame: Frame, bytes: &[u8], from: usize, to: usize) -> u32
@@ -94,32 +31,6 @@ fn count_pairs(frame: Frame, bytes: &[u8], from: usize, to: usize) -> u32
         i += 1;
     }
     count
-}
-
-fn capped_sum(a: usize, b: usize) -> usize
-    requires { ⌜ (a ≤ 60001) × (b ≤ 60001) ⌝ }
-    ensures { λ r. ⌜ r ≡ capped (a + b) ⌝ }
-{
-    if a + b <= 60_000 {
-        return a + b;
-    }
-    60_001
-}
-
-// How long their pairs are.
-fn pairs_length(frame: Frame, bytes: &[u8], from: usize, to: usize) -> usize
-    requires { ⌜ (from ≤ to) × (to ≤ 17) ⌝ }
-    ensures { λ r. ⌜ r ≡ capped (length (pairBytes (itemsBetween from to frame (now (bytes .entry))))) ⌝ }
-{
-    let mut total: usize = 0;
-    let mut i = from;
-    while i < to {
-        let known = frame_items::known_key(frame, bytes, i);
-        let content = known.content;
-        total = capped_sum(total, frame_items::pair_length(bytes, content));
-        i += 1;
-    }
-    total
 }
 
 // A key below 128 is one byte; what it holds follows.
@@ -195,18 +106,6 @@ fn put_frame(out: &mut [u8], frame: Frame, bytes: &[u8], size: usize) -> usize
     put_map(out, b, frame, bytes, 3, 17)
 }
 
-// How long header and body are, each with a header of one byte; counted up to 60,001.
-fn contents_length(frame: Frame, bytes: &[u8]) -> usize
-    ensures { λ r. ⌜ r ≡ capped (length (contents (headerItems frame) (bodyItems frame (now (bytes .entry))))) ⌝ }
-{
-    let header = pairs_length(frame, bytes, 0, 3);
-    let body = pairs_length(frame, bytes, 3, 17);
-    if header + body <= 59_998 {
-        return header + body + 2;
-    }
-    60_001
-}
-
 fn refused(number: u32) -> Written
     ensures { λ r. ⌜ r ≡ refusal number ⌝ }
 {
@@ -222,18 +121,18 @@ pub fn write_frame(frame: Frame, bytes: &[u8], out: &mut [u8]) -> Written
     if !needs.known {
         return refused(8);
     }
-    if !all_sound(frame, bytes) {
+    if !frame_judging::all_sound(frame, bytes) {
         return refused(4);
     }
-    if !all_suit(frame, bytes) {
+    if !frame_judging::all_suit(frame, bytes) {
         return refused(9);
     }
     let keys = needs.keys;
     let count = needs.count;
-    if !holds_all(frame, bytes, &keys[..count]) {
+    if !frame_judging::holds_all(frame, bytes, &keys[..count]) {
         return refused(10);
     }
-    let size = contents_length(frame, bytes);
+    let size = frame_judging::contents_length(frame, bytes);
     if 60_000 < size {
         return refused(3);
     }

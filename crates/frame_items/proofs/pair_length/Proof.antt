@@ -1,5 +1,4 @@
 -- By the content. Assumes nothing.
-use mathlib.Core.Path.{refl, ap, _∙_}
 use Rattle.frames.specs.Held.{encoded}
 use Rattle.frame_items.specs.Content.{heldOf, pairLength, capped}
 use borrow.Author.Needs.{needs}

@@ -1,11 +1,11 @@
 -- One key after the other. Assumes nothing.
-use mathlib.Core.Path.{_≡_, refl, sym, ap, _∙_}
-use Prim.Native.Nat.{ℕ, _+_, _-_, _≤_}
+use mathlib.Core.Path.{_≡_, sym, _∙_}
+use Prim.Native.Nat.{_+_, _-_, _≤_}
 use mathlib.Core.Logic.{⊎-elim}
 use lib.ListN.{length}
 use Rattle.frames.specs.Writing.{pairs}
-use Rattle.frame_writing.specs.Parts.{itemsBetween}
-use Rattle.frame_writing.proofs.Runs.{run, no-run, one-more, no-more}
+use Rattle.frame_judging.specs.Parts.{itemsBetween}
+use Rattle.frame_judging.proofs.Runs.{run, no-run, one-more, no-more}
 use borrow.Author.Needs.{needs}
 use native.Mathlib.Omega.{arith}
 use Rattle.frame_writing.proofs.count_pairs.Statement.{statement}

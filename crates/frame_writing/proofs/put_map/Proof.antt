@@ -1,9 +1,8 @@
 -- The header, then the pairs. Assumes nothing.
-use mathlib.Core.Path.{_≡_, refl, sym, ap, _∙_}
-use Prim.Native.Nat.{ℕ, _+_, _-_, _≤_}
+use mathlib.Core.Path.{_∙_}
 use Rattle.writing.specs.Forms.{mapHeader}
-use Rattle.frame_writing.specs.Parts.{itemsBetween}
-use Rattle.frame_writing.proofs.Runs.{map-first, turn}
+use Rattle.frame_judging.specs.Parts.{itemsBetween}
+use Rattle.frame_writing.proofs.Turns.{map-first, turn}
 use borrow.Author.Needs.{needs}
 use Rattle.frame_writing.proofs.put_map.Statement.{statement}
 use Rattle.frame_writing.proofs.put_map.Tie as tie

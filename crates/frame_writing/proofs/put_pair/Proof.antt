@@ -1,8 +1,7 @@
 -- By the content. Assumes nothing.
-use mathlib.Core.Path.{_≡_, refl, sym, ap, _∙_}
 use Rattle.frames.specs.Held.{encoded}
 use Rattle.frame_items.specs.Content.{heldOf}
-use Rattle.frame_writing.specs.Parts.{pairOf}
+use Rattle.frame_judging.specs.Parts.{pairOf}
 use Rattle.writing.proofs.Put.{nothing}
 use borrow.Author.Needs.{needs}
 use Rattle.frame_writing.proofs.put_pair.Statement.{statement}

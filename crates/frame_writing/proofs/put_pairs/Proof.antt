@@ -1,13 +1,13 @@
 -- One pair after the other. Assumes nothing.
-use mathlib.Core.Path.{_≡_, refl, sym, ap, _∙_}
-use Prim.Native.Nat.{ℕ, _+_, _-_, _≤_}
-use lib.ListN.{length}
+use mathlib.Core.Path.{ap}
+use Prim.Native.Nat.{_-_, _≤_}
 use Rattle.values.specs.Pieces.{joined}
 use Rattle.frames.specs.Held.{encoded}
 use Rattle.frames.specs.Writing.{pairs, flat}
 use Rattle.frame_items.specs.Content.{heldOf}
-use Rattle.frame_writing.specs.Parts.{itemsBetween, pairOf, pairBytes}
-use Rattle.frame_writing.proofs.Runs.{run, no-run, pair-first, Left, all-left, turn-on, turned, long, first-room}
+use Rattle.frame_judging.specs.Parts.{itemsBetween, pairOf, pairBytes}
+use Rattle.frame_judging.proofs.Runs.{run, no-run, pair-first}
+use Rattle.frame_writing.proofs.Turns.{Left, all-left, turn-on, turned, long, first-room}
 use borrow.Author.Needs.{needs}
 use native.Mathlib.Omega.{arith}
 use Rattle.frame_writing.proofs.put_pairs.Statement.{statement}

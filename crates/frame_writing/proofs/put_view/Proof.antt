@@ -1,6 +1,5 @@
 -- The key, then what it holds. Assumes nothing.
-use mathlib.Core.Path.{_≡_, refl, sym, ap, _∙_}
-use mathlib.Core.List.{List, [], _∷_}
+use mathlib.Core.List.{[], _∷_}
 use Rattle.writing.specs.Forms.{bigEndian}
 use Rattle.writing.proofs.Put.{wrote, written, step}
 use borrow.Author.Needs.{needs}

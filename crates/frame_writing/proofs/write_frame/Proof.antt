@@ -2,13 +2,13 @@
 use mathlib.Core.Path.{_≡_, sym, _∙_}
 use mathlib.Core.Bool.{true}
 use mathlib.Core.Option.{some}
-use Prim.Native.Nat.{ℕ, _≤_}
+use Prim.Native.Nat.{_≤_}
 use native.Mathlib.Omega.{arith}
 use borrow.Author.Tests.{not-true, not-false}
 use lib.ListN.{length, take}
 use lib.Seq.{length-take-le}
 use Rattle.frames.specs.Codes.{required}
-use Rattle.frame_writing.proofs.Lengths.{capped-within, capped-past}
+use Rattle.frame_judging.proofs.Lengths.{capped-within, capped-past}
 use Rattle.frame_writing.proofs.Calls.{Sound, Suited, There, contentsOf, call-8, call-4, call-9, call-10, call-3, call-18, call-0, no-needs, some-needs, form-long}
 use borrow.Author.Needs.{needs}
 use Rattle.frame_writing.proofs.write_frame.Statement.{statement}

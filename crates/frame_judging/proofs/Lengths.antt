@@ -1,0 +1,90 @@
+-- Lengths counted up to the first that no frame has. Assumes nothing.
+use mathlib.Core.Path.{_≡_, sym, ap, _∙_}
+use mathlib.Core.List.{List, [], _∷_}
+use mathlib.Core.Logic.{⊎-elim}
+use Prim.Native.Nat.{ℕ, _+_, _<_, _≤_, min}
+use native.Mathlib.Omega.{arith}
+use borrow.Author.Tests.{lt-ltb}
+use lib.ListN.{length, length-append}
+use Rattle.first_bytes.specs.Bytes.{Bytes}
+use Rattle.values.specs.Pieces.{joined}
+use Rattle.writing.specs.Forms.{mapHeader}
+use Rattle.writing.proofs.Choice.{either}
+use Rattle.frames.specs.declared.Frame.{Frame}
+use Rattle.frames.specs.Held.{Item, encoded}
+use Rattle.frames.specs.Keys.{headerItems, bodyItems}
+use Rattle.frames.specs.Writing.{pairs, flat, mapForm, contents}
+use Rattle.frame_items.specs.Content.{heldOf, itemOf, pairLength, capped}
+use Rattle.frame_items.specs.declared.KnownKey.{KnownKey}
+use Rattle.frame_items.proofs.Laws.{capped-low, capped-high}
+use Rattle.frame_judging.specs.Parts.{itemsBetween, pairOf, pairBytes}
+use Rattle.frame_judging.proofs.Runs.{pairs-few, pair-first, pair-long, header-run, body-run}
+
+-- as the smaller of two numbers, which arithmetic knows
+counted : (n : ℕ) → capped n ≡ min n 60001
+counted n = ⊎-elim (λ h. sym (capped-low n h) ∙ omega arith) (λ h. sym (capped-high n h) ∙ omega arith) (either n 60000)
+
+pub capped-few : (n : ℕ) → capped n ≤ 60001
+capped-few n = let c = counted n in omega arith
+
+-- what a count within a frame says, and one past it
+pub capped-within : (n : ℕ) → capped n ≤ 60000 → capped n ≡ n
+capped-within n h = let c = counted n in omega arith
+
+pub capped-past : (n : ℕ) → 60000 < capped n → 60000 < n
+capped-past n h = let c = counted n in omega arith
+
+-- a turn of the counting loop
+pub count-turn : (total p q : ℕ) → capped (capped (total + capped p) + q) ≡ capped (total + (p + q))
+count-turn total p q =
+    let a = counted p in
+    let b = counted (total + capped p) in
+    let c = counted (capped (total + capped p) + q) in
+    let d = counted (total + (p + q)) in
+    omega arith
+
+module _ (s : Bytes) (k : KnownKey) {xs rest : List Item} (e : xs ≡ itemOf s k ∷ rest) where
+  pub pair-counted : (total : ℕ) {p t : ℕ} → p ≡ capped (pairLength (encoded (heldOf s (k .content)))) → t ≡ capped (total + p)
+      → capped (t + length (pairBytes rest)) ≡ capped (total + length (pairBytes xs))
+  pair-counted total {p} {t} ep et =
+      let o = encoded (heldOf s (k .content)) in
+      let l : length (pairBytes xs) ≡ pairLength o + length (pairBytes rest)
+      = ap length (pair-first s k e) ∙ length-append (pairOf (k .key) o) (pairBytes rest) ∙ ap (λ (n : ℕ). n + length (pairBytes rest)) (pair-long (k .key) o)
+      in
+      rw (et, ep, l) (count-turn total (pairLength o) (length (pairBytes rest)))
+
+pub all-counted : (total : ℕ) {xs : List Item} → xs ≡ [] → total ≤ 60001 → total ≡ capped (total + length (pairBytes xs))
+unfolding pairBytes pairs flat joined
+all-counted total e h = rw e (let c = counted (total + 0) in omega arith)
+
+-- ---- the contents: a map of fewer than 16 pairs has a header of one byte
+
+map-long : (xs : List Item) → length xs < 16 → length (mapForm (pairs xs)) ≡ length (pairBytes xs) + 1
+unfolding mapForm mapHeader pairBytes
+map-long xs h = let k = pairs-few xs in rw (lt-ltb (length (pairs xs)) 16 (omega arith)) (omega arith)
+
+module _ (r : Frame) (s : Bytes) where
+  contents-long : length (contents (headerItems r) (bodyItems r s))
+      ≡ length (pairBytes (itemsBetween 0 3 r s)) + length (pairBytes (itemsBetween 3 17 r s)) + 2
+  unfolding contents headerItems bodyItems
+  contents-long =
+      let h = map-long (headerItems r) (omega arith) in
+      let b = map-long (bodyItems r s) (omega arith) in
+      rw (header-run r s, body-run r s) (length-append (mapForm (pairs (headerItems r))) (mapForm (pairs (bodyItems r s))) ∙ omega arith)
+
+  module _ (h b : ℕ) (eh : h ≡ capped (length (pairBytes (itemsBetween 0 3 r s)))) (eb : b ≡ capped (length (pairBytes (itemsBetween 3 17 r s)))) where
+    pub contents-counted : h + b ≤ 59998 → h + b + 2 ≡ capped (length (contents (headerItems r) (bodyItems r s)))
+    contents-counted k =
+        let x = counted (length (pairBytes (itemsBetween 0 3 r s))) in
+        let y = counted (length (pairBytes (itemsBetween 3 17 r s))) in
+        let z = contents-long in
+        let c = counted (length (contents (headerItems r) (bodyItems r s))) in
+        omega arith
+
+    pub contents-past : 59998 < h + b → 60001 ≡ capped (length (contents (headerItems r) (bodyItems r s)))
+    contents-past k =
+        let x = counted (length (pairBytes (itemsBetween 0 3 r s))) in
+        let y = counted (length (pairBytes (itemsBetween 3 17 r s))) in
+        let z = contents-long in
+        let c = counted (length (contents (headerItems r) (bodyItems r s))) in
+        omega arith

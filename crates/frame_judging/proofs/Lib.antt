@@ -1,0 +1,3 @@
+-- The laws of a record's items.
+pub mod Runs
+pub mod Lengths

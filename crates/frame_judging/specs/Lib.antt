@@ -1,0 +1,2 @@
+-- Runs of a record's items.
+pub mod Parts
