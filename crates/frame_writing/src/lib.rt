@@ -121,10 +121,12 @@ pub fn write_frame(frame: Frame, bytes: &[u8], out: &mut [u8]) -> Written
     if !needs.known {
         return refused(8);
     }
-    if !frame_judging::all_sound(frame, bytes) {
+    let sound = frame_judging::all_sound(frame, bytes);
+    let suited = frame_judging::all_suit(frame, bytes);
+    if !sound {
         return refused(4);
     }
-    if !frame_judging::all_suit(frame, bytes) {
+    if !suited {
         return refused(9);
     }
     let keys = needs.keys;

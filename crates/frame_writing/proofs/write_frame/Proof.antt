@@ -19,12 +19,11 @@ known : (c : tie.After-all-sound)
     → (let n = c .before .before .before in some (take (n .needs-of .result .count) (n .needs-of .result .keys)) ≡ required (n .before .before .before .args .frame .code))
 known c = let n = c .before .before .before in some-needs (n .needs-of .result) (n .needs-of .ensures .0) (not-false _ (c .before .if1 .left))
 
-whole : (c : tie.After-all-suit) → (let a = c .before .before .before .before .before .before .before .before .args in Sound (a .frame) (a .bytes .now) true)
-whole c = sym (not-false _ (c .before .if2 .left)) ∙ c .before .before .all-sound .ensures
+whole : (c : tie.After-holds-all) → (let a = c .before .before .before .before .before .before .before .before .before .before .before .before .args in Sound (a .frame) (a .bytes .now) true)
+whole c = sym (not-false _ (c .before .before .before .before .if2 .left)) ∙ c .before .before .before .before .before .before .all-sound .ensures
 
-suited : (c : tie.After-holds-all)
-    → (let a = c .before .before .before .before .before .before .before .before .before .before .before .before .args in Suited (a .frame) (a .bytes .now) true)
-suited c = sym (not-false _ (c .before .before .before .if3 .left)) ∙ c .before .before .before .before .all-suit .ensures
+suited : (c : tie.After-holds-all) → (let a = c .before .before .before .before .before .before .before .before .before .before .before .before .args in Suited (a .frame) (a .bytes .now) true)
+suited c = sym (not-false _ (c .before .before .before .if3 .left)) ∙ c .before .before .before .before .before .all-suit .ensures
 
 there : (c : tie.After-contents-length)
     → (let n = c .before .before .before .before .before .before .before .before .before .before .before in
@@ -52,29 +51,29 @@ returns c =
 all-sound-requires : tie.Need-all-sound-requires
 all-sound-requires c κs = search needs
 
+all-suit-requires : tie.Need-all-suit-requires
+all-suit-requires c κs = search needs
+
 refused-requires-2 : tie.Need-refused-requires-2
 refused-requires-2 c κs = search needs
 
 returns-2 : tie.Need-returns-2
 returns-2 c =
-    let p = c .before .before in
+    let p = c .before .before .before in
     let n = p .before .before .before in
     let a = n .before .before .before .args in
     rw (c .refused2 .ensures) (call-4 (a .frame) (a .bytes .now) (a .out .now) (take (n .needs-of .result .count) (n .needs-of .result .keys)) (known p) (sym (not-true _ (c .before .if2 .taken)) ∙ p .all-sound .ensures))
-
-all-suit-requires : tie.Need-all-suit-requires
-all-suit-requires c κs = search needs
 
 refused-requires-3 : tie.Need-refused-requires-3
 refused-requires-3 c κs = search needs
 
 returns-3 : tie.Need-returns-3
 returns-3 c =
-    let q = c .before .before in
-    let p = q .before .before in
+    let q = c .before .before .before in
+    let p = q .before in
     let n = p .before .before .before in
     let a = n .before .before .before .args in
-    rw (c .refused3 .ensures) (call-9 (a .frame) (a .bytes .now) (a .out .now) (take (n .needs-of .result .count) (n .needs-of .result .keys)) (known p) (whole q) (sym (not-true _ (c .before .if3 .taken)) ∙ q .all-suit .ensures))
+    rw (c .refused3 .ensures) (call-9 (a .frame) (a .bytes .now) (a .out .now) (take (n .needs-of .result .count) (n .needs-of .result .keys)) (known p) (sym (not-false _ (c .before .before .if2 .left)) ∙ p .all-sound .ensures) (sym (not-true _ (c .before .if3 .taken)) ∙ q .all-suit .ensures))
 
 array-share-prefix-keys : tie.Need-array-share-prefix-keys
 array-share-prefix-keys c = search needs
@@ -93,11 +92,10 @@ refused-requires-4 c κs = search needs
 returns-4 : tie.Need-returns-4
 returns-4 c =
     let h = c .before .before in
-    let q = h .before .before .before .before in
-    let p = q .before .before in
+    let p = h .before .before .before .before .before .before in
     let n = p .before .before .before in
     let a = n .before .before .before .args in
-    rw (c .refused4 .ensures) (call-10 (a .frame) (a .bytes .now) (a .out .now) (take (n .needs-of .result .count) (n .needs-of .result .keys)) (known p) (whole q) (suited h) (sym (not-true _ (c .before .if4 .taken)) ∙ h .holds-all .ensures))
+    rw (c .refused4 .ensures) (call-10 (a .frame) (a .bytes .now) (a .out .now) (take (n .needs-of .result .count) (n .needs-of .result .keys)) (known p) (whole h) (suited h) (sym (not-true _ (c .before .if4 .taken)) ∙ h .holds-all .ensures))
 
 contents-length-requires : tie.Need-contents-length-requires
 contents-length-requires c κs = search needs
@@ -109,12 +107,11 @@ returns-5 : tie.Need-returns-5
 returns-5 c =
     let l = c .before .before in
     let h = l .before .before in
-    let q = h .before .before .before .before in
-    let p = q .before .before in
+    let p = h .before .before .before .before .before .before in
     let n = p .before .before .before in
     let a = n .before .before .before .args in
     let e = l .contents-length .ensures in
-    rw (c .refused5 .ensures) (call-3 (a .frame) (a .bytes .now) (a .out .now) (take (n .needs-of .result .count) (n .needs-of .result .keys)) (known p) (whole q) (suited h) (there l) (capped-past (length (contentsOf (a .frame) (a .bytes .now))) (omega arith)))
+    rw (c .refused5 .ensures) (call-3 (a .frame) (a .bytes .now) (a .out .now) (take (n .needs-of .result .count) (n .needs-of .result .keys)) (known p) (whole h) (suited h) (there l) (capped-past (length (contentsOf (a .frame) (a .bytes .now))) (omega arith)))
 
 add-if6 : tie.Need-add-if6
 add-if6 c = search needs
@@ -126,20 +123,18 @@ returns-6 : tie.Need-returns-6
 returns-6 c =
     let l = c .before .before .before in
     let h = l .before .before in
-    let q = h .before .before .before .before in
-    let p = q .before .before in
+    let p = h .before .before .before .before .before .before in
     let n = p .before .before .before in
     let a = n .before .before .before .args in
     let e = sized l (c .before .before .if5 .left) in
     let f = form-long (contentsOf (a .frame) (a .bytes .now)) in
-    rw (c .refused6 .ensures) (call-18 (a .frame) (a .bytes .now) (a .out .now) (take (n .needs-of .result .count) (n .needs-of .result .keys)) (known p) (whole q) (suited h) (there l) (omega arith) (omega arith))
+    rw (c .refused6 .ensures) (call-18 (a .frame) (a .bytes .now) (a .out .now) (take (n .needs-of .result .count) (n .needs-of .result .keys)) (known p) (whole h) (suited h) (there l) (omega arith) (omega arith))
 
 put-frame-requires : tie.Need-put-frame-requires
 put-frame-requires c κs =
     let l = c .before .before .before in
     let h = l .before .before in
-    let q = h .before .before .before .before in
-    let p = q .before .before in
+    let p = h .before .before .before .before .before .before in
     let n = p .before .before .before in
     let a = n .before .before .before .args in
     let e = sized l (c .before .before .if5 .left) in
@@ -153,15 +148,14 @@ returns-7 : tie.Need-returns-7
 returns-7 c =
     let l = c .before .before .before .before .before .before in
     let h = l .before .before in
-    let q = h .before .before .before .before in
-    let p = q .before .before in
+    let p = h .before .before .before .before .before .before in
     let n = p .before .before .before in
     let a = n .before .before .before .args in
     let i = c .before .before .before .before .before .if5 .left in
     let j = c .before .before .before .before .if6 .left in
     let e = sized l i in
     let f = form-long (contentsOf (a .frame) (a .bytes .now)) in
-    call-0 (a .frame) (a .bytes .now) (a .out .now) (take (n .needs-of .result .count) (n .needs-of .result .keys)) (known p) (whole q) (suited h) (there l) (omega arith) (omega arith) (c .before .before .put-frame .ensures)
+    call-0 (a .frame) (a .bytes .now) (a .out .now) (take (n .needs-of .result .count) (n .needs-of .result .keys)) (known p) (whole h) (suited h) (there l) (omega arith) (omega arith) (c .before .before .put-frame .ensures)
 
 pub write-frame-spec : {M : Type 1} → statement M
 write-frame-spec =
@@ -171,9 +165,9 @@ write-frame-spec =
     refused-requires
     returns
     all-sound-requires
+    all-suit-requires
     refused-requires-2
     returns-2
-    all-suit-requires
     refused-requires-3
     returns-3
     array-share-prefix-keys
