@@ -11,9 +11,10 @@ import sys
 
 import damaged_values
 import frame_cases
+import update_cases
 import values
 
-CALLS = {"v": lambda line: values.line(line.split("\t")[1]), "f": frame_cases.answer, "w": frame_cases.answer}
+CALLS = {"v": lambda line: values.line(line.split("\t")[1]), "f": frame_cases.answer, "w": frame_cases.answer, "u": update_cases.answer}
 
 
 def lines():
@@ -24,6 +25,7 @@ def lines():
     for b, what in damaged_values.cases():
         yield "v\t%s\t%s\tours" % (bytes(b).hex(), what)
     yield from frame_cases.lines()
+    yield from update_cases.lines()
 
 
 def main():

@@ -2,6 +2,7 @@
 // compares with what a second implementation says. A line begins with the call that it is for.
 mod frame_cases;
 mod text;
+mod update_cases;
 mod value_cases;
 
 use text::find;
@@ -58,6 +59,23 @@ fn print_written(line: &[u8]) {
     }
 }
 
+// u: a tuple, a list, an index base and the room of the lent buffer: the update and its undo list.
+fn print_updated(line: &[u8]) {
+    let mut tuple = [0u8; 40960];
+    let mut list = [0u8; 40960];
+    let mut out = [0u8; 40960];
+    let at_list = after(line, 0);
+    let at_base = after(line, at_list);
+    let at_room = after(line, at_base);
+    let n = text::expand(field(line, 0), &mut tuple);
+    let m = text::expand(field(line, at_list), &mut list);
+    let base = text::decimal_at(line, at_base);
+    let room = text::decimal_at(line, at_room);
+    if room <= 40960 {
+        update_cases::print_update(&tuple[0..n], &list[0..m], base as u64, &mut out[0..room]);
+    }
+}
+
 // A letter for the call, a tab, and its fields.
 fn print_line(line: &[u8]) {
     if line.len() < 2 {
@@ -69,6 +87,7 @@ fn print_line(line: &[u8]) {
         b'v' => print_value(fields),
         b'f' => print_frame(fields),
         b'w' => print_written(fields),
+        b'u' => print_updated(fields),
         _ => text::print(b"?\n"),
     }
 }

@@ -8,6 +8,17 @@ ghost use Rattle.tuples.specs.Tuple.{Fields, fieldsOf};
 ghost use Rattle.tuples.specs.Sequence.{Event, start, byCalls, byMemory, final, trace, AllKept, Home};
 ghost use Rattle.tuples.specs.Examples.{computed, known, rules, first, events, shows};
 
+// Document 01's limits of tuples and of lists; `specs/Limits.antt` has the same.
+pub const MAX_FIELDS: usize = 64;
+
+pub const MAX_TUPLE: usize = 16384;
+
+pub const FIELD_DEPTH: usize = 12;
+
+pub const MAX_OPERATIONS: usize = 64;
+
+pub const MAX_LIST: usize = 32768;
+
 // Why an update or an undo is refused; `numberOf` gives document 01's number of each.
 pub enum Refusal {
     BadTuple,

@@ -128,6 +128,13 @@ pub fn write_string_header(out: &mut [u8], at: usize, n: u32) -> usize
     write_tagged(out, at, h.0, h.1, h.2)
 }
 
+// How many bytes `write_string_header` writes where there is room.
+pub fn string_header_length(n: u32) -> usize
+    ensures { λ r. ⌜ r ≡ length (stringHeader n) ⌝ }
+{
+    string_head(n).2 + 1
+}
+
 // A count of an array or a map: the first bytes of its short forms begin at `short`, those of its longer ones at `long`.
 fn count_head(short: u8, long: u8, n: u32) -> Head
     requires { ⌜ (short ≤ 0xf0) × (long ≤ 0xfe) ⌝ }

@@ -1,0 +1,2 @@
+-- The laws of altered fields, each once. Assumes nothing.
+pub mod Edits

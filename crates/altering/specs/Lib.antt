@@ -1,0 +1,2 @@
+-- What an action makes of a field that it alters.
+pub mod Edits

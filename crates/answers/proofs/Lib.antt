@@ -1,0 +1,2 @@
+-- The laws of answers, each once. Assumes nothing.
+pub mod Written

@@ -1,0 +1,28 @@
+-- What a caller sees of a refusal, and of bytes written from the buffer's start on. Assumes nothing.
+use mathlib.Core.Path.{_≡_}
+use Prim.Native.Nat.{ℕ, _<_, _≤_}
+use native.Mathlib.Nat.{zero-add}
+use borrow.Author.Tests.{le-leb, lt-leb}
+use lib.ListN.{length}
+use Rattle.first_bytes.specs.Bytes.{Bytes}
+use Rattle.writing.proofs.Put.{Wrote}
+use Rattle.tuples.specs.Call.{bytes, refusal, refusing, writing, delivered}
+use Rattle.tuples.specs.declared.Answer.{Answer}
+use Rattle.tuples.specs.declared.Refusal.{Refusal}
+use Rattle.tuples.specs.declared.Refusal.the-variants.{ShortBuffer}
+use Rattle.answers.specs.Seen.{seen, refusalOf}
+
+pub seen-refusal : {r : Answer} (k : Refusal) (i : ℕ) (out : Bytes) → r ≡ refusalOf k i → seen r out ≡ delivered (refusal k i) out
+unfolding delivered refusing
+seen-refusal k i out e = rw e
+
+pub seen-short : {r : Answer} (w out : Bytes) → length out < length w → r ≡ refusalOf ShortBuffer 0 → seen r out ≡ delivered (bytes w) out
+unfolding delivered refusing
+seen-short w out h e = rw (e, lt-leb _ _ h)
+
+pub seen-written : {w out cur : Bytes} {a n : ℕ} → Wrote out 0 w cur a → n ≡ length w
+    → seen (record { number = 0; operation = 0; length = n }) cur ≡ delivered (bytes w) out
+unfolding delivered writing
+seen-written {w} {out} {cur} {a} {n} h e =
+    let b : length w ≤ length out = rw zero-add at (h .room) in
+    rw (le-leb _ _ b, e, h .is, zero-add)

@@ -1,0 +1,62 @@
+-- Header and values are two writes, with room for both. Assumes nothing.
+use mathlib.Core.Path.{_≡_}
+use mathlib.Core.List.{_++_}
+use Prim.Native.Nat.{_+_}
+use native.Mathlib.Omega.{arith}
+use lib.ListN.{length, length-append}
+use Rattle.writing.specs.Forms.{arrayHeader}
+use Rattle.writing.proofs.Lengths.{array-long}
+use Rattle.writing.proofs.Put.{step, wrote}
+use Rattle.answers.proofs.Written.{seen-short, seen-written}
+use borrow.Author.Needs.{needs}
+use Rattle.answers.proofs.deliver.Statement.{statement}
+use Rattle.answers.proofs.deliver.Tie as tie
+
+total : (o : tie.Start) → length (arrayHeader (o .args .count) ++ o .args .values .now) ≡ length (arrayHeader (o .args .count)) + length (o .args .values .now)
+total o = length-append (arrayHeader (o .args .count)) (o .args .values .now)
+
+array-header-length-requires : tie.Need-array-header-length-requires
+array-header-length-requires c κs = search needs
+
+add-length : tie.Need-add-length
+add-length c = let h = array-long (c .before .before .before .args .count) in omega arith
+
+refused-requires : tie.Need-refused-requires
+refused-requires c κs = search needs
+
+returns : tie.Need-returns
+returns c = let a = c .before .before .before .before .before .args in let n = total (c .before .before .before .before .before) in seen-short (arrayHeader (a .count) ++ a .values .now) (a .out .now) (omega arith) (c .refused .ensures)
+
+write-array-header-requires : tie.Need-write-array-header-requires
+write-array-header-requires c κs = search needs
+
+write-bytes-requires : tie.Need-write-bytes-requires
+write-bytes-requires c κs = search needs
+
+same-length : tie.Need-same-length
+same-length c = search needs
+
+returns-2 : tie.Need-returns-2
+returns-2 c =
+    let w = c .before .before in
+    let h = w .before .before .before .before in
+    let o = c .before .before .before .before .before .before .before .before .before .before .before .before in
+    let a = o .args in
+    let n = total o in
+    seen-written
+    (step (a .out .now) 0 (arrayHeader (a .count)) (h .write-array-header .ensures) (omega arith)
+    (λ k. wrote (h .write-array-header .last .0) (h .write-array-header .result) (a .values .now) (w .write-bytes .ensures) k))
+    (omega arith)
+
+pub deliver-spec : {M : Type 1} → statement M
+deliver-spec =
+    tie.close
+    (tie.spec
+    array-header-length-requires
+    add-length
+    refused-requires
+    returns
+    write-array-header-requires
+    write-bytes-requires
+    same-length
+    returns-2)

@@ -1,0 +1,2 @@
+-- What a caller sees of a call.
+pub mod Seen

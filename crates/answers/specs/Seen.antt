@@ -1,0 +1,13 @@
+-- What a caller sees of a call: the answer, and the lent buffer afterwards.
+use Prim.Native.Nat.{ℕ}
+use Rattle.first_bytes.specs.Bytes.{Bytes}
+use Rattle.tuples.specs.Call.{numberOf, Result}
+use Rattle.tuples.specs.declared.Answer.{Answer}
+use Rattle.tuples.specs.declared.Refusal.{Refusal}
+
+abbrev pub seen : Answer → Bytes → Result
+seen r out = record { number = r .number; operation = r .operation; length = r .length; buffer = out }
+
+-- a refusal's answer, with the operation's index
+abbrev pub refusalOf : Refusal → ℕ → Answer
+refusalOf k i = record { number = numberOf k; operation = i; length = 0 }

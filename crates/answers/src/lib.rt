@@ -1,0 +1,50 @@
+// What a call answers, and what it writes into the lent buffer.
+use tuples::Answer;
+use tuples::Refusal;
+ghost use mathlib.Core.Path.{_≡_};
+ghost use mathlib.Core.List.{_++_};
+ghost use Rattle.writing.specs.Forms.{arrayHeader};
+ghost use Rattle.tuples.specs.Call.{numberOf, bytes, delivered};
+ghost use Rattle.answers.specs.Seen.{refusalOf, seen};
+
+fn number_of(refusal: Refusal) -> u32
+    ensures { λ r. ⌜ r ≡ numberOf refusal ⌝ }
+{
+    match refusal {
+        Refusal::BadTuple => 11,
+        Refusal::BadList => 12,
+        Refusal::NoField => 13,
+        Refusal::Unsuited => 14,
+        Refusal::OutOfRange => 15,
+        Refusal::TooLarge => 16,
+        Refusal::LongUndo => 17,
+        Refusal::ShortBuffer => 18,
+    }
+}
+
+pub fn refused(refusal: Refusal, operation: u32) -> Answer
+    ensures { λ r. ⌜ r ≡ refusalOf refusal operation ⌝ }
+{
+    Answer {
+        number: number_of(refusal),
+        operation,
+        length: 0,
+    }
+}
+
+// The array of `count` values that lie back to back, into the lent buffer.
+pub fn deliver(count: u32, values: &[u8], out: &mut [u8]) -> Answer
+    ensures { λ r. ⌜ seen r (now (out .exit)) ≡ delivered (bytes (arrayHeader count ++ now (values .entry))) (now (out .entry)) ⌝ }
+{
+    let length = writing::array_header_length(count) + values.len();
+    if out.len() < length {
+        return refused(Refusal::ShortBuffer, 0);
+    }
+    let at = writing::write_array_header(out, 0, count);
+    writing::write_bytes(out, at, values);
+    Answer {
+        number: 0,
+        operation: 0,
+        length,
+    }
+}

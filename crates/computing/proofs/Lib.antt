@@ -1,0 +1,2 @@
+-- The laws of computed numbers, each once. Assumes nothing.
+pub mod Numbers

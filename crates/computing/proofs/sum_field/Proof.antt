@@ -1,0 +1,51 @@
+-- The field and the argument, as integers. Assumes nothing.
+use mathlib.Core.Option.{some}
+use mathlib.Core.Path.{refl, sym, subst}
+use Rattle.tuples.specs.Edit.{Edit}
+use Rattle.computing.specs.Altering.{Alters}
+use Rattle.computing.specs.Computing.{SumInRange}
+use Rattle.computing.proofs.Numbers as Numbers
+use borrow.Author.Needs.{needs}
+use Rattle.computing.proofs.sum_field.Statement.{statement}
+use Rattle.computing.proofs.sum_field.Tie as tie
+
+any-integer-requires : tie.Need-any-integer-requires
+any-integer-requires c κs = search needs
+
+enum-known-z : tie.Need-enum-known-z
+enum-known-z c = search needs
+
+enum-told : tie.Need-enum-told
+enum-told c = search needs
+
+returns : tie.Need-returns
+returns c =
+    let a = c .before .before .before .before .before .args in
+    rw (← (Numbers.sum-unsuited (a .minus) (a .v) (a .field .now) (c .before .before .any-integer .ensures) (c .enum-told .given .1))) (refl, refl)
+
+total-requires : tie.Need-total-requires
+total-requires c κs = search needs
+
+put-sum-requires : tie.Need-put-sum-requires
+put-sum-requires c κs = subst SumInRange (sym (c .before .total .ensures)) (Numbers.sum-in-range _)
+
+same-length : tie.Need-same-length
+same-length c = search needs
+
+returns-2 : tie.Need-returns-2
+returns-2 c =
+    let a = c .before .before .before .before .before .before .before .before .before .before .before .args in
+    rw (← (Numbers.sum-is (a .minus) (a .v) (a .field .now) (c .before .before .before .before .before .before .before .before .any-integer .ensures) (c .before .before .before .before .before .before .z .given .1) (c .before .before .before .before .total .ensures))) (c .before .before .put-sum .ensures)
+
+pub sum-field-spec : {M : Type 1} → statement M
+sum-field-spec =
+    tie.close
+    (tie.spec
+    any-integer-requires
+    enum-known-z
+    enum-told
+    returns
+    total-requires
+    put-sum-requires
+    same-length
+    returns-2)

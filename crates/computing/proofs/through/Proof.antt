@@ -1,0 +1,34 @@
+-- Each gate. Assumes nothing.
+use mathlib.Core.Path.{sym, ap}
+use Rattle.computing.specs.Computing.{gateOf}
+use Rattle.computing.specs.declared.Gate.{Gate}
+use borrow.Author.Needs.{needs}
+use Rattle.computing.proofs.through.Statement.{statement}
+use Rattle.computing.proofs.through.Tie as tie
+
+enum-told : tie.Need-enum-told
+enum-told c = search needs
+
+enum-told-2 : tie.Need-enum-told-2
+enum-told-2 c = search needs
+
+enum-told-3 : tie.Need-enum-told-3
+enum-told-3 c = search needs
+
+returns : tie.Need-returns
+returns c =
+    let a = c .before .before .args in
+    ap (λ (g : Gate). gateOf g (a .n) (a .v)) (sym (c .enum-told .given .1))
+
+returns-2 : tie.Need-returns-2
+returns-2 c =
+    let a = c .before .before .args in
+    ap (λ (g : Gate). gateOf g (a .n) (a .v)) (sym (c .enum-told2 .given .1))
+
+returns-3 : tie.Need-returns-3
+returns-3 c =
+    let a = c .before .before .args in
+    ap (λ (g : Gate). gateOf g (a .n) (a .v)) (sym (c .enum-told3 .given .1))
+
+pub through-spec : {M : Type 1} → statement M
+through-spec = tie.close (tie.spec enum-told enum-told-2 enum-told-3 returns returns-2 returns-3)

@@ -1,0 +1,40 @@
+-- Computed numbers.
+use Prim.Native.Nat.{ℕ}
+use mathlib.Core.Bool.{Bool}
+use mathlib.Core.List.{[], _∷_}
+use mathlib.Core.Option.{Option, none, some}
+use lib.Bits.{bitAnd, bitXor, bitOr}
+use Rattle.first_bytes.specs.Bytes.{Bytes, pick}
+use Rattle.scalars.specs.declared.Int.{Int}
+use Rattle.read_back.specs.Claims.{integerForm, InRange}
+use Rattle.tuples.specs.Operation.{plus, minus, and, xor, or}
+use Rattle.tuples.specs.Operation as Law
+use Rattle.tuples.specs.Edit.{Edit, editAt}
+use Rattle.sums.specs.declared.Sum.{Sum}
+use Rattle.sums.specs.declared.Sum.the-variants.{Is as IsSum, OutOfRange}
+use Rattle.computing.specs.declared.Gate.{Gate}
+use Rattle.computing.specs.declared.Gate.the-variants.{And, Xor, Or}
+
+abbrev pub formOf : Sum → Option Bytes
+formOf (IsSum z) = some (integerForm z)
+formOf OutOfRange = none
+
+abbrev pub SumInRange : Sum → Type 0
+SumInRange (IsSum z) = InRange z
+SumInRange OutOfRange = Unit {0}
+
+abbrev pub gateOf : Gate → ℕ → ℕ → ℕ
+gateOf And n v = bitAnd n v
+gateOf Xor n v = bitXor n v
+gateOf Or n v = bitOr n v
+
+abbrev pub gateAction : Gate → ℕ → Law.Action
+gateAction And v = and v
+gateAction Xor v = xor v
+gateAction Or v = or v
+
+abbrev pub bitsEdit : Gate → ℕ → Bytes → Edit
+bitsEdit g v field = editAt (gateAction g v) 0 (field ∷ [])
+
+abbrev pub sumEdit : Bool → Int → Bytes → Edit
+sumEdit less v field = editAt (pick less (minus v) (plus v)) 0 (field ∷ [])

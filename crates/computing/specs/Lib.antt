@@ -1,0 +1,3 @@
+-- A field altered in place, and computed numbers.
+pub mod Altering
+pub mod Computing

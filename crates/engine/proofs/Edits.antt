@@ -1,0 +1,170 @@
+-- An edit of the fields that two arrays hold. Assumes nothing.
+use mathlib.Core.Path.{_≡_, refl, sym, ap, _∙_}
+use mathlib.Core.Bool.{true, false}
+use mathlib.Core.List.{List, _++_}
+use Prim.Native.Nat.{ℕ, _+_, _-_, _<_, _≤_}
+use native.Mathlib.Omega.{arith}
+use borrow.Author.Tests.{le-leb, lt-leb, leb-true}
+use lib.Dec.{leb}
+use lib.ListN.{length, take, drop, length-append, length-drop}
+use lib.Seq.{length-take-le, take-take, take-all}
+use Rattle.first_bytes.specs.Bytes.{Bytes}
+use Rattle.values.specs.Pieces.{joined}
+use Rattle.writing.specs.Forms.{arrayHeader}
+use Rattle.tuples.specs.Limits.{maxFields, maxTuple}
+use Rattle.tuples.specs.Tuple.{Fields}
+use Rattle.tuples.specs.Edit.{Step, stop, next, spliced, fits, limited}
+use Rattle.tuples.specs.declared.Refusal.{Refusal}
+use Rattle.tuples.specs.declared.Refusal.the-variants.{NoField, TooLarge}
+use Rattle.tuples.proofs.Cases.{both-hold}
+use Rattle.tuples.proofs.Legal.{plain-length}
+use Rattle.moves.specs.Splice.{replaced}
+use Rattle.moves.proofs.Splice.{spliced-over}
+use Rattle.engine.specs.Held.{sum, cutInto, fieldsIn, holds, edit, lengthsOf, over, Left}
+use Rattle.engine.specs.Decision.{goneBytes, within}
+use Rattle.engine.specs.declared.Edited.the-variants.{Stop, Next}
+use Rattle.engine.proofs.Cut.{sum-append, sum-parts, sum-more, length-cut, lengths-cut, cut-front, joined-cut, cut-splice}
+use Rattle.engine.proofs.Ends.{Holds, held}
+
+-- ---- refusal 16, by the numbers of fields and of bytes
+
+module _ (n m : ℕ) where
+  pub many : maxFields < n → within n m ≡ false
+  unfolding within
+  many h = simp (lt-leb _ _ h)
+
+  pub long-ones : n ≤ maxFields → maxTuple < length (arrayHeader n) + m → within n m ≡ false
+  unfolding within
+  long-ones h k = simp (le-leb _ _ h, lt-leb _ _ k)
+
+  pub both-within : n ≤ maxFields → length (arrayHeader n) + m ≤ maxTuple → within n m ≡ true
+  unfolding within
+  both-within h k = simp (le-leb _ _ h, le-leb _ _ k)
+
+  pub is-within : within n m ≡ true → (n ≤ maxFields) × (length (arrayHeader n) + m ≤ maxTuple)
+  unfolding within
+  is-within e = let h = both-hold (leb n maxFields) (leb (length (arrayHeader n) + m) maxTuple) e in (leb-true _ _ (h .0), leb-true _ _ (h .1))
+
+module _ {n m : ℕ} where
+  as-fits : (t : Fields) → length t ≡ n → length (joined t) ≡ m → within n m ≡ fits t
+  unfolding within fits
+  as-fits t e g = rw (plain-length t, e, g)
+
+  pub too-large : (t : Fields) → length t ≡ n → length (joined t) ≡ m → within n m ≡ false → stop TooLarge ≡ limited t
+  unfolding limited
+  too-large t e g h = rw (← as-fits t e g, h)
+
+  small-enough : (t : Fields) → length t ≡ n → length (joined t) ≡ m → within n m ≡ true → next t ≡ limited t
+  unfolding limited
+  small-enough t e g h = rw (← as-fits t e g, h)
+
+-- ---- the step, by what is known of the arrays
+
+module _ (f g : ℕ) (xs : Fields) (s : Bytes) (l : List ℕ) (n : ℕ) where
+  pub not-held : holds l n ≡ false → stop TooLarge ≡ edit f g xs s l n
+  unfolding edit
+  not-held e = rw e
+
+  pub no-field : Holds l n → n < f + g → stop NoField ≡ edit f g xs s l n
+  unfolding edit
+  no-field h k = rw (held l n h, lt-leb _ _ k)
+
+  pub as-limited : Holds l n → f + g ≤ n → limited (spliced f g xs (fieldsIn s l n)) ≡ edit f g xs s l n
+  unfolding edit
+  as-limited h k = rw (held l n h, le-leb _ _ k)
+
+pub stopped : {k : Refusal} {s : Bytes} {l : List ℕ} {to : Step} → stop k ≡ to → Left (Stop k) s l s l to
+stopped e = rw (← e) (record { answer = refl; bytes = refl; table = refl })
+
+-- ---- from field f on, g of n make way for those that ks cut p into
+
+pub record Replacing (s : Bytes) (l : List ℕ) (n f g : ℕ) (ks : List ℕ) (p : Bytes) : Type 0 where
+  pub holding : Holds l n
+  pub room : length s ≡ maxTuple
+  pub part : f + g ≤ n
+  pub whole : sum ks ≡ length p
+
+module _ {s : Bytes} {l : List ℕ} {n f g : ℕ} {ks : List ℕ} {p : Bytes} (q : Replacing s l n f g ks p) where
+  pub inside : (sum (take f l) ≤ sum (take (f + g) l)) × (sum (take (f + g) l) ≤ sum (take n l))
+  inside = (sum-more f (f + g) l (omega arith), sum-more (f + g) n l (q .part))
+
+  abbrev pub edited : Fields
+  edited = spliced f g (cutInto ks p) (fieldsIn s l n)
+
+  -- table and bytes as they are to be
+  rows : List ℕ
+  rows = spliced f g ks (take n l)
+
+  bytes : Bytes
+  bytes = spliced (sum (take f l)) (goneBytes l f g) p (take (sum (take n l)) s)
+
+  count : length rows ≡ n - g + length ks
+  unfolding rows spliced
+  count =
+      let a : length (take n l) ≡ n = length-take-le n l (q .holding .rows) in
+      let b : length (take f (take n l)) ≡ f = length-take-le f (take n l) (omega arith) in
+      simp (length-append, length-drop, a, b) (omega arith)
+
+  weight : sum rows ≡ sum (take n l) - goneBytes l f g + length p
+  unfolding rows spliced goneBytes
+  weight =
+      let a = ap sum (take-take f n l (omega arith)) in
+      let b = ap sum (take-take (f + g) n l (q .part)) in
+      let c = sum-parts (f + g) (take n l) in
+      let d = sum-append (take f (take n l)) (ks ++ drop (f + g) (take n l)) in
+      let e = sum-append ks (drop (f + g) (take n l)) in
+      let i = inside in
+      omega arith
+
+  long : length bytes ≡ sum rows
+  unfolding bytes spliced goneBytes
+  long =
+      let i = inside in
+      let d : length (take (sum (take n l)) s) ≡ sum (take n l) = length-take-le (sum (take n l)) s (omega arith) in
+      let b : length (take (sum (take f l)) (take (sum (take n l)) s)) ≡ sum (take f l) = length-take-le _ (take (sum (take n l)) s) (omega arith) in
+      simp (length-append, length-drop, b, d) (omega (arith, weight))
+
+  cut-both : cutInto rows bytes ≡ edited
+  unfolding rows bytes goneBytes
+  cut-both =
+      let a = ap sum (take-take f n l (omega arith)) in
+      let b = ap sum (take-take (f + g) n l (q .part)) in
+      let c : length (take n l) ≡ n = length-take-le n l (q .holding .rows) in
+      let d : length (take (sum (take n l)) s) ≡ sum (take n l) = length-take-le (sum (take n l)) s (omega arith) in
+      rw (← a, ← b) (cut-splice (take n l) ks (take (sum (take n l)) s) p f g (omega arith) (omega arith) (q .whole))
+      ∙ ap (spliced f g (cutInto ks p)) (cut-front (take n l) s (sum (take n l)) (omega arith))
+
+  joined-both : joined edited ≡ bytes
+  joined-both = ap joined (sym cut-both) ∙ joined-cut rows bytes ∙ take-all (sum rows) bytes (omega (arith, long))
+
+  lengths-both : lengthsOf edited ≡ rows
+  lengths-both = ap lengthsOf (sym cut-both) ∙ lengths-cut rows bytes (omega (arith, long))
+
+  -- how many fields and bytes there are to be
+  pub fields-after : length edited ≡ n - g + length ks
+  fields-after = ap length (sym cut-both) ∙ length-cut rows bytes ∙ count
+
+  pub bytes-after : length (joined edited) ≡ sum (take n l) - goneBytes l f g + length p
+  bytes-after = ap length joined-both ∙ long ∙ weight
+
+  -- both arrays after their splices
+  module _ (hm : n - g + length ks ≤ maxFields) (ht : length (arrayHeader (n - g + length ks)) + (sum (take n l) - goneBytes l f g + length p) ≤ maxTuple)
+      (hl : length l ≡ maxFields) where
+    table-after : replaced n f g ks l ≡ over (lengthsOf edited) l
+    unfolding over rows spliced
+    table-after =
+        spliced-over n f g ks l (record { part = q .part; all = q .holding .rows; after = omega arith })
+        ∙ rw (lengths-both, ← count)
+
+    scratch-after : replaced (sum (take n l)) (sum (take f l)) (goneBytes l f g) p s ≡ over (joined edited) s
+    unfolding over bytes spliced goneBytes
+    scratch-after =
+        let i = inside in
+        rw (joined-both, long ∙ weight)
+        (spliced-over (sum (take n l)) (sum (take f l)) (goneBytes l f g) p s (record { part = omega arith; all = omega arith; after = omega arith }))
+
+    pub edit-done : {s' : Bytes} {l' : List ℕ} → l' ≡ replaced n f g ks l → s' ≡ replaced (sum (take n l)) (sum (take f l)) (goneBytes l f g) p s
+        → Left (Next (n - g + length ks)) s' l' s l (edit f g (cutInto ks p) s l n)
+    edit-done x y =
+        rw (← as-limited f g (cutInto ks p) s l n (q .holding) (q .part), ← small-enough edited fields-after bytes-after (both-within _ _ hm ht))
+        (record { answer = ap Next (sym fields-after); bytes = y ∙ scratch-after; table = x ∙ table-after })

@@ -1,0 +1,65 @@
+-- Where fields end, by their lengths. Assumes nothing.
+use mathlib.Core.Path.{_≡_, refl}
+use mathlib.Core.Bool.{Bool, true, false, _&&_}
+use Prim.Native.Nat.{ℕ, _+_, _<_, _≤_}
+use native.Mathlib.Omega.{arith}
+use borrow.Author.Tests.{le-leb, lt-leb, leb-true}
+use lib.Dec.{leb}
+use lib.ListN.{length, take}
+use mathlib.Core.List.{List}
+use Rattle.first_bytes.specs.Bytes.{pick}
+use Rattle.tuples.specs.Limits.{maxTuple}
+use Rattle.engine.specs.Held.{sum, holds, endOf}
+use Rattle.engine.proofs.Cut.{sum-more}
+
+-- a table that has n lengths, within the limit
+pub record Holds (l : List ℕ) (n : ℕ) : Type 0 where
+  pub rows : n ≤ length l
+  pub short : sum (take n l) ≤ maxTuple
+
+module _ (l : List ℕ) (n : ℕ) where
+  pub held : Holds l n → holds l n ≡ true
+  unfolding holds
+  held h = simp (le-leb _ _ (h .rows), le-leb _ _ (h .short))
+
+  pub end-here : Holds l n → sum (take n l) ≡ endOf l n
+  unfolding endOf
+  end-here h = rw (held h)
+
+  pub end-past : length l < n → maxTuple + 1 ≡ endOf l n
+  unfolding endOf holds
+  end-past h = rw (lt-leb _ _ h)
+
+  pub end-long : n ≤ length l → maxTuple < sum (take n l) → maxTuple + 1 ≡ endOf l n
+  unfolding endOf holds
+  end-long h k = rw (le-leb _ _ h, lt-leb _ _ k)
+
+  -- what an end says
+  by-end : (b : Bool) → pick b (sum (take n l)) (maxTuple + 1) ≤ maxTuple → b ≡ true
+  by-end true h = refl
+  by-end false h = absurd (omega arith)
+
+  past-end : (b : Bool) → (b ≡ true → sum (take n l) ≤ maxTuple) → maxTuple < pick b (sum (take n l)) (maxTuple + 1) → b ≡ false
+  past-end true k h = absurd (let s = k refl in omega arith)
+  past-end false k h = refl
+
+  both : (a b : Bool) → leb n (length l) ≡ a → leb (sum (take n l)) maxTuple ≡ b → (a && b) ≡ true → Holds l n
+  both true true x y e = record { rows = leb-true _ _ x; short = leb-true _ _ y }
+  both true false x y e = absurd (let z : _≡_ {A = ℕ} 0 1 = cc in omega arith)
+  both false b x y e = absurd (let z : _≡_ {A = ℕ} 0 1 = cc in omega arith)
+
+  pub is-held : holds l n ≡ true → Holds l n
+  unfolding holds
+  is-held e = both (leb n (length l)) (leb (sum (take n l)) maxTuple) refl refl e
+
+  pub end-held : endOf l n ≤ maxTuple → Holds l n
+  unfolding endOf
+  end-held h = is-held (by-end (holds l n) h)
+
+  pub end-unheld : maxTuple < endOf l n → holds l n ≡ false
+  unfolding endOf
+  end-unheld h = past-end (holds l n) (λ e. is-held e .short) h
+
+-- fewer fields are held too
+pub holds-fewer : {l : List ℕ} {n : ℕ} (f : ℕ) → f ≤ n → Holds l n → Holds l f
+holds-fewer {l} {n} f h k = let m = sum-more f n l h in record { rows = omega arith; short = omega arith }

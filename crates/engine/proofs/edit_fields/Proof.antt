@@ -1,0 +1,76 @@
+-- What was decided says what both splices do. Assumes nothing.
+use mathlib.Core.Path.{_∙_}
+use native.Mathlib.Omega.{arith}
+use Rattle.engine.proofs.Edits.{stopped, edit-done}
+use Rattle.engine.proofs.Decisions.{Means, Going, meaning}
+use borrow.Author.Needs.{needs}
+use Rattle.engine.proofs.edit_fields.Statement.{statement}
+use Rattle.engine.proofs.edit_fields.Tie as tie
+
+decision : (d : tie.After-decide) → (let a = d .before .before .before .before .before .before .args in Means (a .scratch .now) (a .lengths .now) (a .n) (a .f) (a .gone) (a .cuts .now) (a .piece .now) (d .decide .result))
+decision d =
+    let o = d .before .before .before .before .before .before in
+    let a = o .args in
+    rw (d .decide .ensures) (meaning (a .scratch .now) (a .lengths .now) (a .n) (a .f) (a .gone) (a .cuts .now) (a .piece .now) (o .pre))
+
+going : (k : tie.After-known-told2) → (let a = k .before .before .before .before .before .before .before .before .before .args in Going (a .scratch .now) (a .lengths .now) (a .n) (a .f) (a .gone) (a .cuts .now) (a .piece .now) (k .before .bytes .given .0 .0) (k .before .bytes .given .0 .1 .0) (k .before .bytes .given .0 .1 .1 .0))
+going k = rw (k .before .bytes .given .1) at (decision (k .before .before .before))
+
+decide-requires : tie.Need-decide-requires
+decide-requires c κs = search needs
+
+enum-known-refusal : tie.Need-enum-known-refusal
+enum-known-refusal c = search needs
+
+enum-known-bytes : tie.Need-enum-known-bytes
+enum-known-bytes c = search needs
+
+splice-bytes-requires : tie.Need-splice-bytes-requires
+splice-bytes-requires c κs = search needs
+
+splice-lengths-requires : tie.Need-splice-lengths-requires
+splice-lengths-requires c κs = search needs
+
+sub-t23 : tie.Need-sub-t23
+sub-t23 c = let g = going (c .before .before .before .before .before .before .before .before) in omega (arith, g .replacing .part)
+
+add-t25 : tie.Need-add-t25
+add-t25 c = let g = going (c .before .before .before .before .before .before .before .before) in omega (arith, g .few)
+
+same-length : tie.Need-same-length
+same-length c = search needs
+
+returns : tie.Need-returns
+returns c = stopped (rw (c .before .refusal .given .1) at (decision (c .before .before .before)))
+
+same-length-2 : tie.Need-same-length-2
+same-length-2 c = search needs
+
+same-length-3 : tie.Need-same-length-3
+same-length-3 c = search needs
+
+returns-2 : tie.Need-returns-2
+returns-2 c =
+    let l = c .before .before in
+    let s = l .before .before .before .before in
+    let k = s .before .before in
+    let g = going k in
+    let o = k .before .before .before .before .before .before .before .before .before in
+    edit-done (g .replacing) (g .few) (g .short) (o .pre .rows) (l .splice-lengths .ensures .1) (s .splice-bytes .ensures .1 ∙ rw (g .all, g .start, g .bytes))
+
+pub edit-fields-spec : {M : Type 1} → statement M
+edit-fields-spec =
+    tie.close
+    (tie.spec
+    decide-requires
+    enum-known-refusal
+    enum-known-bytes
+    splice-bytes-requires
+    splice-lengths-requires
+    sub-t23
+    add-t25
+    same-length
+    returns
+    same-length-2
+    same-length-3
+    returns-2)

@@ -1,0 +1,18 @@
+-- One edit, of one field. Assumes nothing.
+use native.Mathlib.Omega.{arith}
+use Rattle.engine.proofs.Cut.{sum-one, cut-one}
+use borrow.Author.Needs.{needs}
+use Rattle.engine.proofs.put_in.Statement.{statement}
+use Rattle.engine.proofs.put_in.Tie as tie
+
+slice-aggregate-edit-fields : tie.Need-slice-aggregate-edit-fields
+slice-aggregate-edit-fields c = search needs
+
+edit-fields-requires : tie.Need-edit-fields-requires
+edit-fields-requires c κs = record { room = search needs; rows = search needs; few = omega arith; whole = sum-one _ }
+
+returns : tie.Need-returns
+returns c = rw (cut-one (c .before .before .before .before .before .args .piece .now)) at (c .edit-fields .ensures)
+
+pub put-in-spec : {M : Type 1} → statement M
+put-in-spec = tie.close (tie.spec slice-aggregate-edit-fields edit-fields-requires returns)

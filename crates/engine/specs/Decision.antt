@@ -1,0 +1,39 @@
+-- What is decided of an edit before anything moves, by numbers alone; and what the one edit inside asks.
+use Prim.Native.Nat.{ℕ, _+_, _-_, _≤_}
+use mathlib.Core.Path.{_≡_}
+use mathlib.Core.Bool.{Bool, _&&_}
+use mathlib.Core.List.{List}
+use lib.Dec.{leb}
+use lib.ListN.{length, take}
+use Rattle.first_bytes.specs.Bytes.{Bytes, pick}
+use Rattle.writing.specs.Forms.{arrayHeader}
+use Rattle.tuples.specs.Limits.{maxFields, maxTuple}
+use Rattle.tuples.specs.declared.Refusal.the-variants.{NoField, TooLarge}
+use Rattle.engine.specs.Held.{sum, holds}
+use Rattle.engine.specs.declared.Decided.{Decided}
+use Rattle.engine.specs.declared.Decided.the-variants.{Stop, Go}
+
+-- the bytes of `gone` fields from f on
+unfoldable pub goneBytes : List ℕ → ℕ → ℕ → ℕ
+goneBytes lengths f gone = sum (take (f + gone) lengths) - sum (take f lengths)
+
+-- whether n fields of m bytes together are within a tuple's limits
+unfoldable pub within : ℕ → ℕ → Bool
+within n m = leb n maxFields && leb (length (arrayHeader n) + m) maxTuple
+
+unfoldable pub decided : List ℕ → ℕ → ℕ → ℕ → ℕ → ℕ → Decided
+decided lengths n f gone more long =
+    pick (holds lengths n)
+    (pick (leb (f + gone) n)
+    (pick (within (n - gone + more) (sum (take n lengths) - goneBytes lengths f gone + long))
+    (Go (sum (take n lengths)) (sum (take f lengths)) (goneBytes lengths f gone))
+    (Stop TooLarge))
+    (Stop NoField))
+    (Stop TooLarge)
+
+-- arrays of a tuple's size, and at most one length, which is the piece's
+pub record Editing (scratch : Bytes) (lengths : List ℕ) (cuts : List ℕ) (piece : Bytes) : Type 0 where
+  pub room : length scratch ≡ maxTuple
+  pub rows : length lengths ≡ maxFields
+  pub few : length cuts ≤ 1
+  pub whole : sum cuts ≡ length piece

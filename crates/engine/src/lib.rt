@@ -1,0 +1,126 @@
+// The tuple under work: its fields lie back to back at the front of a scratch array, and a table has
+// their lengths. Nothing here knows MessagePack but for the length of the array's header.
+use tuples::MAX_FIELDS;
+use tuples::MAX_TUPLE;
+use tuples::Refusal;
+ghost use mathlib.Core.Path.{_≡_};
+ghost use mathlib.Core.List.{[], _∷_};
+ghost use Prim.Native.Nat.{_^_, _<_, _≤_};
+ghost use Rattle.engine.specs.Held.{endOf, cutInto, edit, Left};
+ghost use Rattle.engine.specs.Decision.{decided, Editing};
+
+// What an edit leaves: so many fields, or a refusal.
+pub enum Edited {
+    Stop(Refusal),
+    Next(usize),
+}
+
+// What an edit may do: it is refused; or the bytes that there are, and from where on how many go.
+enum Decided {
+    Stop(Refusal),
+    Go(usize, usize, usize),
+}
+
+// Where the first n fields end; past every scratch array where the table has no n, or they are too
+// long.
+pub fn end_of(lengths: &[usize], n: usize) -> usize
+    ensures { λ r. ⌜ r ≡ endOf (now (lengths .entry)) n ⌝ }
+{
+    if lengths.len() < n {
+        return MAX_TUPLE + 1;
+    }
+    let mut end: usize = 0;
+    let mut i: usize = 0;
+    while i < n {
+        let k = lengths[i];
+        if MAX_TUPLE - end < k {
+            return MAX_TUPLE + 1;
+        }
+        end += k;
+        i += 1;
+    }
+    end
+}
+
+// Whether `more` fields of `long` bytes together may come for `gone` of the n from f on.
+fn decide(lengths: &[usize], n: usize, f: usize, gone: usize, more: usize, long: usize) -> Decided
+    requires { ⌜ (more ≤ 1) × (long < 2 ^ 63) ⌝ }
+    ensures { λ r. ⌜ r ≡ decided (now (lengths .entry)) n f gone more long ⌝ }
+{
+    let bytes = end_of(lengths, n);
+    if MAX_TUPLE < bytes {
+        return Decided::Stop(Refusal::TooLarge);
+    }
+    if n < f {
+        return Decided::Stop(Refusal::NoField);
+    }
+    if n - f < gone {
+        return Decided::Stop(Refusal::NoField);
+    }
+    let fields = n - gone + more;
+    if MAX_FIELDS < fields {
+        return Decided::Stop(Refusal::TooLarge);
+    }
+    let from = end_of(lengths, f);
+    let gone_bytes = end_of(lengths, f + gone) - from;
+    if MAX_TUPLE - writing::array_header_length(fields as u32) < bytes - gone_bytes + long {
+        return Decided::Stop(Refusal::TooLarge);
+    }
+    Decided::Go(bytes, from, gone_bytes)
+}
+
+// The fields that `cuts` cut the piece into come for `gone` of the n from f on. All is decided before
+// a byte moves.
+fn edit_fields(
+    scratch: &mut [u8],
+    lengths: &mut [usize],
+    n: usize,
+    f: usize,
+    gone: usize,
+    cuts: &[usize],
+    piece: &[u8],
+) -> Edited
+    requires { ⌜ Editing (now scratch) (now lengths) (now cuts) (now piece) ⌝ }
+    ensures { λ r. ⌜ Left r (now (scratch .exit)) (now (lengths .exit)) (now (scratch .entry)) (now (lengths .entry))
+        (edit f gone (cutInto (now (cuts .entry)) (now (piece .entry))) (now (scratch .entry)) (now (lengths .entry)) n) ⌝ }
+{
+    match decide(lengths, n, f, gone, cuts.len(), piece.len()) {
+        Decided::Stop(refusal) => Edited::Stop(refusal),
+        Decided::Go(bytes, from, gone_bytes) => {
+            moves::splice_bytes(scratch, bytes, from, gone_bytes, piece);
+            moves::splice_lengths(lengths, n, f, gone, cuts);
+            Edited::Next(n - gone + cuts.len())
+        }
+    }
+}
+
+// The piece comes for `gone` of the n fields from f on.
+pub fn put_in(
+    scratch: &mut [u8; MAX_TUPLE],
+    lengths: &mut [usize; MAX_FIELDS],
+    n: usize,
+    f: usize,
+    gone: usize,
+    piece: &[u8],
+) -> Edited
+    ensures { λ r. ⌜ Left r (now (scratch .exit)) (now (lengths .exit)) (now (scratch .entry)) (now (lengths .entry))
+        (edit f gone (now (piece .entry) ∷ []) (now (scratch .entry)) (now (lengths .entry)) n) ⌝ }
+{
+    let one = [piece.len()];
+    edit_fields(scratch, lengths, n, f, gone, &one, piece)
+}
+
+// `gone` of the n fields, from f on, go.
+pub fn cut_out(
+    scratch: &mut [u8; MAX_TUPLE],
+    lengths: &mut [usize; MAX_FIELDS],
+    n: usize,
+    f: usize,
+    gone: usize,
+) -> Edited
+    ensures { λ r. ⌜ Left r (now (scratch .exit)) (now (lengths .exit)) (now (scratch .entry)) (now (lengths .entry))
+        (edit f gone [] (now (scratch .entry)) (now (lengths .entry)) n) ⌝ }
+{
+    let none = [0usize; 1];
+    edit_fields(scratch, lengths, n, f, gone, &none[..0], b"")
+}

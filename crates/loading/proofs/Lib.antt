@@ -1,0 +1,3 @@
+-- The laws of loading, each once. Assumes nothing.
+pub mod Measures
+pub mod Judged

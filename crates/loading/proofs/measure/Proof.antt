@@ -1,0 +1,93 @@
+-- The invariant: the values before `i` were whole, and the table has their lengths. Assumes nothing.
+use mathlib.Core.Path.{_≡_, refl, sym, _∙_}
+use Prim.Native.Nat.{_-_, _≤_}
+use native.Mathlib.Omega.{arith}
+use lib.ListN.{length, drop, length-set}
+use Rattle.values.specs.Value.{shift, value}
+use Rattle.values.specs.declared.Read.the-variants.{Whole}
+use Rattle.values.proofs.Local.{value-good}
+use Rattle.tuples.specs.Limits.{fieldDepth}
+use Rattle.loading.proofs.Measures.{Sofar, begin, place-after, next-whole, next-broken, all-whole}
+use borrow.Author.Needs.{needs}
+use Rattle.loading.proofs.measure.Statement.{statement}
+use Rattle.loading.proofs.measure.Tie as tie
+
+abbrev Inv-loop : tie.InvT-loop
+Inv-loop tuple from n lengths₀ at₀ i₀ lengths at i = (i ≤ n) × (length lengths ≡ length lengths₀) × Sofar (value fieldDepth) tuple from n lengths₀ lengths at i
+
+abbrev μ-loop : tie.MeasureT-loop
+μ-loop tuple from n lengths₀ at₀ i₀ lengths at i = n - i
+
+abbrev at-loop : (c : tie.After-known-told2 Inv-loop μ-loop) → tie.At-loop Inv-loop μ-loop
+at-loop c = c .before .before .before .before .before
+
+whole : (c : tie.After-known-told2 Inv-loop μ-loop) → (let l = at-loop c in Whole (c .before .end .given .0 .0) ≡ shift (l .loop .at) (value fieldDepth (drop (l .loop .at) (l .before .before .before .args .tuple .now))))
+whole c = sym (c .before .end .given .1) ∙ c .before .before .before .read-value .ensures
+
+loop-holds : tie.Need-loop-holds Inv-loop μ-loop
+loop-holds c = let a = c .before .before .args in (omega arith, refl, begin (value fieldDepth) (a .tuple .now) (a .from) (a .n) (a .lengths .now))
+
+read-value-requires : tie.Need-read-value-requires Inv-loop μ-loop
+read-value-requires c κs = search needs
+
+enum-known-place : tie.Need-enum-known-place Inv-loop μ-loop
+enum-known-place c = search needs
+
+same-length : tie.Need-same-length Inv-loop μ-loop
+same-length c = search needs
+
+returns : tie.Need-returns Inv-loop μ-loop
+returns c =
+    let r = c .before .before .before in
+    let l = r .before .before in
+    next-broken (value-good fieldDepth) (l .loop .inv .2) (omega arith) (omega arith) (sym (c .before .place .given .1) ∙ r .read-value .ensures)
+
+enum-known-end : tie.Need-enum-known-end Inv-loop μ-loop
+enum-known-end c = search needs
+
+sub-lengths : tie.Need-sub-lengths Inv-loop μ-loop
+sub-lengths c = let e = place-after (value-good fieldDepth) (at-loop c .loop .inv .2) (omega arith) (whole c) in omega arith
+
+mul-lengths : tie.Need-mul-lengths Inv-loop μ-loop
+mul-lengths c = search needs
+
+slice-write-lengths : tie.Need-slice-write-lengths Inv-loop μ-loop
+slice-write-lengths c = search needs
+
+add-i : tie.Need-add-i Inv-loop μ-loop
+add-i c = search needs
+
+loop-less : tie.Need-loop-less Inv-loop μ-loop
+loop-less c = search needs
+
+loop-again : tie.Need-loop-again Inv-loop μ-loop
+loop-again c =
+    let l = at-loop c in
+    (omega arith, simp length-set (omega arith), next-whole (value-good fieldDepth) (l .loop .inv .2) (omega arith) (omega arith) (whole c))
+
+same-length-2 : tie.Need-same-length-2 Inv-loop μ-loop
+same-length-2 c = search needs
+
+returns-2 : tie.Need-returns-2 Inv-loop μ-loop
+returns-2 c = let l = c .before in all-whole (l .loop .inv .2) (omega arith) (omega arith)
+
+pub measure-spec : {M : Type 1} → statement M
+measure-spec =
+    tie.close
+    (tie.spec
+    Inv-loop
+    μ-loop
+    loop-holds
+    read-value-requires
+    enum-known-place
+    same-length
+    returns
+    enum-known-end
+    sub-lengths
+    mul-lengths
+    slice-write-lengths
+    add-i
+    loop-less
+    loop-again
+    same-length-2
+    returns-2)

@@ -1,0 +1,2 @@
+-- A tuple judged, and its fields laid out.
+pub mod Loading

@@ -1,0 +1,73 @@
+-- The first `i` of the piece are laid in. Assumes nothing.
+use mathlib.Core.Path.{_≡_, refl, _∙_}
+use Prim.Native.Nat.{_-_, _≤_}
+use native.Mathlib.Omega.{arith}
+use lib.ListN.{length, length-set}
+use lib.Seq.{paste, paste-zero}
+use Rattle.moves.proofs.Splice.{copy-turn, copied}
+use Rattle.moves.proofs.copy_lengths.Statement.{statement}
+use Rattle.moves.proofs.copy_lengths.Tie as tie
+
+abbrev Inv-loop : tie.InvT-loop
+Inv-loop s₀ at piece i₀ s i = (i ≤ length piece) × (length s ≡ length s₀) × (s ≡ paste s₀ at piece i)
+
+abbrev μ-loop : tie.MeasureT-loop
+μ-loop s₀ at piece i₀ s i = length piece - i
+
+loop-holds : tie.Need-loop-holds Inv-loop μ-loop
+loop-holds c = (omega arith, refl, paste-zero (c .args .s .now) (c .args .at) (c .args .piece .now))
+
+mul-s : tie.Need-mul-s Inv-loop μ-loop
+mul-s c = omega arith
+
+shared-slice-read-s : tie.Need-shared-slice-read-s Inv-loop μ-loop
+shared-slice-read-s c = omega arith
+
+add-s : tie.Need-add-s Inv-loop μ-loop
+add-s c = omega arith
+
+mul-s-2 : tie.Need-mul-s-2 Inv-loop μ-loop
+mul-s-2 c = omega arith
+
+slice-write-s : tie.Need-slice-write-s Inv-loop μ-loop
+slice-write-s c = omega arith
+
+add-i : tie.Need-add-i Inv-loop μ-loop
+add-i c = omega arith
+
+loop-less : tie.Need-loop-less Inv-loop μ-loop
+loop-less c = omega arith
+
+loop-again : tie.Need-loop-again Inv-loop μ-loop
+loop-again c =
+    let l = c .before .before in
+    let a = l .before .args in
+    (omega arith, simp length-set (omega arith), copy-turn (a .s .now) (a .piece .now) (l .loop .s) (a .at) (l .loop .i) (l .loop .inv .2) (omega arith) (omega arith))
+
+same-length : tie.Need-same-length Inv-loop μ-loop
+same-length c = omega arith
+
+returns : tie.Need-returns Inv-loop μ-loop
+returns c =
+    let l = c .before in
+    let a = l .before .args in
+    let e : l .loop .i ≡ length (a .piece .now) = omega arith in
+    l .loop .inv .2 ∙ rw e (copied (a .s .now) (a .piece .now) (a .at) (omega arith))
+
+pub copy-lengths-spec : {M : Type 1} → statement M
+copy-lengths-spec =
+    tie.close
+    (tie.spec
+    Inv-loop
+    μ-loop
+    loop-holds
+    mul-s
+    shared-slice-read-s
+    add-s
+    mul-s-2
+    slice-write-s
+    add-i
+    loop-less
+    loop-again
+    same-length
+    returns)

@@ -1,0 +1,77 @@
+-- The elements from `i` on are moved: `s` is the buffer at first with those of them laid in. Assumes nothing.
+use mathlib.Core.Path.{_≡_, refl, _∙_}
+use Prim.Native.Nat.{_+_, _-_, _≤_}
+use native.Mathlib.Omega.{arith}
+use lib.ListN.{length, drop, length-set}
+use lib.Seq.{paste}
+use native.Mathlib.Nat.{add-zero, sub-zero}
+use Rattle.moves.proofs.Splice.{up-begin, up-turn}
+use Rattle.moves.proofs.lengths_up.Statement.{statement}
+use Rattle.moves.proofs.lengths_up.Tie as tie
+
+abbrev Inv-loop : tie.InvT-loop
+Inv-loop s₀ from to n i₀ s i = (i ≤ n) × (length s ≡ length s₀) × (s ≡ paste s₀ (to + i) (drop (from + i) s₀) (n - i))
+
+abbrev μ-loop : tie.MeasureT-loop
+μ-loop s₀ from to n i₀ s i = i
+
+loop-holds : tie.Need-loop-holds Inv-loop μ-loop
+loop-holds c = (omega arith, refl, up-begin (c .args .s .now) (c .args .from) (c .args .to) (c .args .n))
+
+sub-i : tie.Need-sub-i Inv-loop μ-loop
+sub-i c = omega arith
+
+add-s : tie.Need-add-s Inv-loop μ-loop
+add-s c = omega arith
+
+mul-s : tie.Need-mul-s Inv-loop μ-loop
+mul-s c = omega arith
+
+slice-read-s : tie.Need-slice-read-s Inv-loop μ-loop
+slice-read-s c = omega arith
+
+add-s-2 : tie.Need-add-s-2 Inv-loop μ-loop
+add-s-2 c = omega arith
+
+mul-s-2 : tie.Need-mul-s-2 Inv-loop μ-loop
+mul-s-2 c = omega arith
+
+slice-write-s : tie.Need-slice-write-s Inv-loop μ-loop
+slice-write-s c = omega arith
+
+loop-less : tie.Need-loop-less Inv-loop μ-loop
+loop-less c = omega arith
+
+loop-again : tie.Need-loop-again Inv-loop μ-loop
+loop-again c =
+    let l = c .before .before in
+    let a = l .before .args in
+    (omega arith, simp length-set (omega arith), up-turn (a .s .now) (l .loop .s) (a .from) (a .to) (a .n) (l .loop .i) (l .loop .inv .2) (omega arith) (omega arith) (omega arith) (omega arith))
+
+same-length : tie.Need-same-length Inv-loop μ-loop
+same-length c = omega arith
+
+returns : tie.Need-returns Inv-loop μ-loop
+returns c =
+    let l = c .before in
+    let e : l .loop .i ≡ 0 = omega arith in
+    l .loop .inv .2 ∙ rw (e, add-zero, add-zero, sub-zero)
+
+pub lengths-up-spec : {M : Type 1} → statement M
+lengths-up-spec =
+    tie.close
+    (tie.spec
+    Inv-loop
+    μ-loop
+    loop-holds
+    sub-i
+    add-s
+    mul-s
+    slice-read-s
+    add-s-2
+    mul-s-2
+    slice-write-s
+    loop-less
+    loop-again
+    same-length
+    returns)

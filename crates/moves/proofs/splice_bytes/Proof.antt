@@ -1,0 +1,58 @@
+-- The rest is moved to the place after the piece, and then the piece is laid in. Assumes nothing.
+use mathlib.Core.Path.{sym, _∙_}
+use native.Mathlib.Omega.{arith}
+use lib.ListN.{length}
+use borrow.Author.Tests.{not-true, not-false}
+use Rattle.moves.proofs.Splice.{Room, fit, fitted, unchanged, laid-in}
+use borrow.Author.Needs.{needs}
+use Rattle.moves.proofs.splice_bytes.Statement.{statement}
+use Rattle.moves.proofs.splice_bytes.Tie as tie
+
+room : (c : tie.Else1) → (let a = c .before .before .before .before .args in Room (length (a .s .now)) (a .total) (a .at) (a .gone) (length (a .piece .now)))
+room c = fitted _ _ _ _ _ (sym (c .before .fitting .ensures) ∙ not-false _ (c .if1 .left))
+
+fitting-requires : tie.Need-fitting-requires
+fitting-requires c κs = search needs
+
+returns : tie.Need-returns
+returns c = unchanged _ _ _ _ _ (sym (c .before .fitting .ensures) ∙ not-true _ (c .if1 .taken))
+
+add-rest : tie.Need-add-rest
+add-rest c = let r = room c in omega arith
+
+add-move-bytes : tie.Need-add-move-bytes
+add-move-bytes c = let r = room (c .before) in omega arith
+
+sub-move-bytes : tie.Need-sub-move-bytes
+sub-move-bytes c = let r = room (c .before) in omega arith
+
+move-bytes-requires : tie.Need-move-bytes-requires
+move-bytes-requires c κs = let r = room (c .before) in omega arith
+
+write-bytes-requires : tie.Need-write-bytes-requires
+write-bytes-requires c κs = search needs
+
+same-length : tie.Need-same-length
+same-length c = search needs
+
+returns-2 : tie.Need-returns-2
+returns-2 c =
+    let w = c .before .before in
+    let m = w .before .before .before .before in
+    let e = m .before .before in
+    let a = e .before .before .before .before .args in
+    (fit _ _ _ _ _ (room e), w .write-bytes .ensures .1 ∙ laid-in (a .total) (a .at) (a .gone) (a .piece .now) (a .s .now) (room e) (m .move-bytes .last .0) (m .move-bytes .ensures))
+
+pub splice-bytes-spec : {M : Type 1} → statement M
+splice-bytes-spec =
+    tie.close
+    (tie.spec
+    fitting-requires
+    returns
+    add-rest
+    add-move-bytes
+    sub-move-bytes
+    move-bytes-requires
+    write-bytes-requires
+    same-length
+    returns-2)

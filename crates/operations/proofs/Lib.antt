@@ -1,0 +1,4 @@
+-- The laws of operations and of lists of them, each once. Assumes nothing.
+pub mod Actions
+pub mod Opening
+pub mod Listing

@@ -1,0 +1,30 @@
+-- By the count of the array. Assumes nothing.
+use lib.ListN.{drop}
+use Rattle.tuples.specs.Operation.{actionOf}
+use Rattle.operations.proofs.Actions.{action-other}
+use borrow.Author.Needs.{needs}
+use Rattle.operations.proofs.action_at.Statement.{statement}
+use Rattle.operations.proofs.action_at.Tie as tie
+
+three-at-requires : tie.Need-three-at-requires
+three-at-requires c κs = search needs
+
+returns : tie.Need-returns
+unfolding actionOf
+returns c = rw (c .before .if1 .taken) (c .three-at .ensures)
+
+five-at-requires : tie.Need-five-at-requires
+five-at-requires c κs = search needs
+
+returns-2 : tie.Need-returns-2
+unfolding actionOf
+returns-2 c = rw (c .before .if2 .taken) (c .five-at .ensures)
+
+returns-3 : tie.Need-returns-3
+returns-3 c =
+    let a = c .before .before .before .args in
+    (action-other (a .base) (a .count) (a .mark) (drop (a .at) (a .list .now)) (c .before .if1 .left) (c .if2 .left), tt)
+
+pub action-at-spec : {M : Type 1} → statement M
+action-at-spec =
+    tie.close (tie.spec three-at-requires returns five-at-requires returns-2 returns-3)

@@ -1,0 +1,77 @@
+-- The invariant: operations that are left fill the rest exactly where all of them fill the list from its start on. Assumes nothing.
+use native.Mathlib.Omega.{arith}
+use Prim.Native.Nat.{ℕ, suc, _-_}
+use mathlib.Core.Path.{_≡_, refl, sym, ap, _∙_}
+use lib.ListN.{drop}
+use Rattle.tuples.specs.Operation.{operations}
+use Rattle.operations.specs.Listing.{present}
+use Rattle.operations.proofs.Listing.{operations-next, operations-bad, operations-end}
+use borrow.Author.Needs.{needs}
+use Rattle.operations.proofs.fill_list.Statement.{statement}
+use Rattle.operations.proofs.fill_list.Tie as tie
+
+abbrev Inv-loop : tie.InvT-loop
+Inv-loop list start count base at₀ left₀ at left = present (operations base left (drop at list)) ≡ present (operations base count (drop start list))
+
+abbrev μ-loop : tie.MeasureT-loop
+μ-loop list start count base at₀ left₀ at left = left
+
+loop-holds : tie.Need-loop-holds Inv-loop μ-loop
+loop-holds c = refl
+
+operation-end-requires : tie.Need-operation-end-requires Inv-loop μ-loop
+operation-end-requires c κs = search needs
+
+enum-known-end : tie.Need-enum-known-end Inv-loop μ-loop
+enum-known-end c = search needs
+
+enum-told : tie.Need-enum-told Inv-loop μ-loop
+enum-told c = search needs
+
+returns : tie.Need-returns Inv-loop μ-loop
+returns c =
+    let o = c .before .before .before .before in
+    let a = o .before .before .args in
+    let l = a .list .now in
+    let e : o .loop .left ≡ suc (o .loop .left - 1) = omega arith in
+    operations-bad (a .base) (o .loop .left - 1) l (o .loop .at) (c .before .before .operation-end .ensures) (c .enum-told .given .1)
+    ∙ ap (λ (n : ℕ). present (operations (a .base) n (drop (o .loop .at) l))) (sym e) ∙ o .loop .inv
+
+sub-left : tie.Need-sub-left Inv-loop μ-loop
+sub-left c = omega arith
+
+loop-less : tie.Need-loop-less Inv-loop μ-loop
+loop-less c = omega arith
+
+loop-again : tie.Need-loop-again Inv-loop μ-loop
+loop-again c =
+    let o = c .before .before .before .before .before in
+    let a = o .before .before .args in
+    let l = a .list .now in
+    let e : o .loop .left ≡ suc (o .loop .left - 1) = omega arith in
+    operations-next (a .base) (o .loop .left - 1) l (o .loop .at) (c .before .before .before .operation-end .ensures) (c .before .end .given .1)
+    ∙ ap (λ (n : ℕ). present (operations (a .base) n (drop (o .loop .at) l))) (sym e) ∙ o .loop .inv
+
+returns-2 : tie.Need-returns-2 Inv-loop μ-loop
+returns-2 c =
+    let o = c .before in
+    let a = o .before .before .args in
+    let l = a .list .now in
+    let e : 0 ≡ o .loop .left = omega arith in
+    operations-end (a .base) l (o .loop .at) ∙ ap (λ (n : ℕ). present (operations (a .base) n (drop (o .loop .at) l))) e ∙ o .loop .inv
+
+pub fill-list-spec : {M : Type 1} → statement M
+fill-list-spec =
+    tie.close
+    (tie.spec
+    Inv-loop
+    μ-loop
+    loop-holds
+    operation-end-requires
+    enum-known-end
+    enum-told
+    returns
+    sub-left
+    loop-less
+    loop-again
+    returns-2)

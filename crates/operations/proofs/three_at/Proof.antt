@@ -1,0 +1,222 @@
+-- Each mark with the law of its argument. Assumes nothing.
+use mathlib.Core.Path.{_≡_, refl}
+use lib.ListN.{drop}
+use Rattle.tuples.specs.Decoding.{anyInteger, atLeast, anyValue}
+use Rattle.tuples.specs.Operation.{three, plus, minus, and, xor, or, assign, insert, remove}
+use Rattle.operations.specs.Found.{ActionAt}
+use Rattle.parts.specs.declared.Signed.{Signed}
+use Rattle.parts.specs.declared.Natural.{Natural}
+use Rattle.parts.specs.declared.Span.{Span}
+use Rattle.operations.specs.declared.Action.{Action}
+use Rattle.operations.specs.declared.Action.the-variants.{Plus, Minus, And, Xor, Or, Assign, Insert, Remove}
+use Rattle.operations.proofs.Actions.{bySigned, byNatural, bySpan, signed-action, natural-action, span-action, three-other}
+use borrow.Author.Needs.{needs}
+use Rattle.operations.proofs.three_at.Statement.{statement}
+use Rattle.operations.proofs.three_at.Tie as tie
+
+-- the argument's answer x makes the action by x
+abbrev Arm : tie.Start → Action → Type 0
+Arm o x = ActionAt (o .args .list .now) x (three (o .args .mark) (drop (o .args .at) (o .args .list .now)))
+
+plus-arm : (c : tie.After-any-integer) {x : Signed} → c .any-integer .result ≡ x → Arm (c .before .before .before) (bySigned Plus x)
+unfolding three
+plus-arm c q = rw (c .before .match .keys1) (signed-action _ _ Plus plus (λ _ _ h. (refl, h)) anyInteger (c .any-integer .ensures) q)
+
+minus-arm : (c : tie.After-any-integer2) {x : Signed} → c .any-integer2 .result ≡ x → Arm (c .before .before .before) (bySigned Minus x)
+unfolding three
+minus-arm c q = rw (c .before .match .keys2) (signed-action _ _ Minus minus (λ _ _ h. (refl, h)) anyInteger (c .any-integer2 .ensures) q)
+
+and-arm : (c : tie.After-at-least) {x : Natural} → c .at-least .result ≡ x → Arm (c .before .before .before) (byNatural And x)
+unfolding three
+and-arm c q = rw (c .before .match .keys3) (natural-action _ _ And and (λ _ _ h. (refl, h)) (atLeast 0) (c .at-least .ensures) q)
+
+xor-arm : (c : tie.After-at-least2) {x : Natural} → c .at-least2 .result ≡ x → Arm (c .before .before .before) (byNatural Xor x)
+unfolding three
+xor-arm c q = rw (c .before .match .keys4) (natural-action _ _ Xor xor (λ _ _ h. (refl, h)) (atLeast 0) (c .at-least2 .ensures) q)
+
+or-arm : (c : tie.After-at-least3) {x : Natural} → c .at-least3 .result ≡ x → Arm (c .before .before .before) (byNatural Or x)
+unfolding three
+or-arm c q = rw (c .before .match .keys5) (natural-action _ _ Or or (λ _ _ h. (refl, h)) (atLeast 0) (c .at-least3 .ensures) q)
+
+assign-arm : (c : tie.After-any-value) {x : Span} → c .any-value .result ≡ x → Arm (c .before .before .before) (bySpan Assign x)
+unfolding three
+assign-arm c q = rw (c .before .match .keys6) (span-action _ _ Assign assign (λ _ _ h. (refl, h)) anyValue (c .any-value .ensures) q)
+
+insert-arm : (c : tie.After-any-value2) {x : Span} → c .any-value2 .result ≡ x → Arm (c .before .before .before) (bySpan Insert x)
+unfolding three
+insert-arm c q = rw (c .before .match .keys7) (span-action _ _ Insert insert (λ _ _ h. (refl, h)) anyValue (c .any-value2 .ensures) q)
+
+remove-arm : (c : tie.After-at-least4) {x : Natural} → c .at-least4 .result ≡ x → Arm (c .before .before .before) (byNatural Remove x)
+unfolding three
+remove-arm c q = rw (c .before .match .keys8) (natural-action _ _ Remove remove (λ _ _ h. (refl, h)) (atLeast 1) (c .at-least4 .ensures) q)
+
+any-integer-requires : tie.Need-any-integer-requires
+any-integer-requires c κs = search needs
+
+enum-known-z : tie.Need-enum-known-z
+enum-known-z c = search needs
+
+enum-told : tie.Need-enum-told
+enum-told c = search needs
+
+any-integer-requires-2 : tie.Need-any-integer-requires-2
+any-integer-requires-2 c κs = search needs
+
+enum-known-z-2 : tie.Need-enum-known-z-2
+enum-known-z-2 c = search needs
+
+enum-told-2 : tie.Need-enum-told-2
+enum-told-2 c = search needs
+
+at-least-requires : tie.Need-at-least-requires
+at-least-requires c κs = search needs
+
+enum-known-n : tie.Need-enum-known-n
+enum-known-n c = search needs
+
+enum-told-3 : tie.Need-enum-told-3
+enum-told-3 c = search needs
+
+at-least-requires-2 : tie.Need-at-least-requires-2
+at-least-requires-2 c κs = search needs
+
+enum-known-n-2 : tie.Need-enum-known-n-2
+enum-known-n-2 c = search needs
+
+enum-told-4 : tie.Need-enum-told-4
+enum-told-4 c = search needs
+
+at-least-requires-3 : tie.Need-at-least-requires-3
+at-least-requires-3 c κs = search needs
+
+enum-known-n-3 : tie.Need-enum-known-n-3
+enum-known-n-3 c = search needs
+
+enum-told-5 : tie.Need-enum-told-5
+enum-told-5 c = search needs
+
+any-value-requires : tie.Need-any-value-requires
+any-value-requires c κs = search needs
+
+enum-known-start : tie.Need-enum-known-start
+enum-known-start c = search needs
+
+enum-told-6 : tie.Need-enum-told-6
+enum-told-6 c = search needs
+
+any-value-requires-2 : tie.Need-any-value-requires-2
+any-value-requires-2 c κs = search needs
+
+enum-known-start-2 : tie.Need-enum-known-start-2
+enum-known-start-2 c = search needs
+
+enum-told-7 : tie.Need-enum-told-7
+enum-told-7 c = search needs
+
+at-least-requires-4 : tie.Need-at-least-requires-4
+at-least-requires-4 c κs = search needs
+
+enum-known-n-4 : tie.Need-enum-known-n-4
+enum-known-n-4 c = search needs
+
+enum-told-8 : tie.Need-enum-told-8
+enum-told-8 c = search needs
+
+returns : tie.Need-returns
+returns c = plus-arm (c .before .before .before) (c .before .z .given .1)
+
+returns-2 : tie.Need-returns-2
+returns-2 c = plus-arm (c .before .before) (c .enum-told .given .1)
+
+returns-3 : tie.Need-returns-3
+returns-3 c = minus-arm (c .before .before .before) (c .before .z2 .given .1)
+
+returns-4 : tie.Need-returns-4
+returns-4 c = minus-arm (c .before .before) (c .enum-told2 .given .1)
+
+returns-5 : tie.Need-returns-5
+returns-5 c = and-arm (c .before .before .before) (c .before .n .given .1)
+
+returns-6 : tie.Need-returns-6
+returns-6 c = and-arm (c .before .before) (c .enum-told3 .given .1)
+
+returns-7 : tie.Need-returns-7
+returns-7 c = xor-arm (c .before .before .before) (c .before .n2 .given .1)
+
+returns-8 : tie.Need-returns-8
+returns-8 c = xor-arm (c .before .before) (c .enum-told4 .given .1)
+
+returns-9 : tie.Need-returns-9
+returns-9 c = or-arm (c .before .before .before) (c .before .n3 .given .1)
+
+returns-10 : tie.Need-returns-10
+returns-10 c = or-arm (c .before .before) (c .enum-told5 .given .1)
+
+returns-11 : tie.Need-returns-11
+returns-11 c = assign-arm (c .before .before .before) (c .before .start .given .1)
+
+returns-12 : tie.Need-returns-12
+returns-12 c = assign-arm (c .before .before) (c .enum-told6 .given .1)
+
+returns-13 : tie.Need-returns-13
+returns-13 c = insert-arm (c .before .before .before) (c .before .start2 .given .1)
+
+returns-14 : tie.Need-returns-14
+returns-14 c = insert-arm (c .before .before) (c .enum-told7 .given .1)
+
+returns-15 : tie.Need-returns-15
+returns-15 c = remove-arm (c .before .before .before) (c .before .n4 .given .1)
+
+returns-16 : tie.Need-returns-16
+returns-16 c = remove-arm (c .before .before) (c .enum-told8 .given .1)
+
+returns-17 : tie.Need-returns-17
+returns-17 c =
+    let r = c .match .rest in
+    (three-other _ _ (r .0 .0 .0 .0 .0 .0 .0 .1) (r .0 .0 .0 .0 .0 .0 .1) (r .0 .0 .0 .0 .0 .1) (r .0 .0 .0 .0 .1) (r .0 .0 .0 .1) (r .0 .0 .1) (r .0 .1) (r .1), tt)
+
+pub three-at-spec : {M : Type 1} → statement M
+three-at-spec =
+    tie.close
+    (tie.spec
+    any-integer-requires
+    enum-known-z
+    enum-told
+    any-integer-requires-2
+    enum-known-z-2
+    enum-told-2
+    at-least-requires
+    enum-known-n
+    enum-told-3
+    at-least-requires-2
+    enum-known-n-2
+    enum-told-4
+    at-least-requires-3
+    enum-known-n-3
+    enum-told-5
+    any-value-requires
+    enum-known-start
+    enum-told-6
+    any-value-requires-2
+    enum-known-start-2
+    enum-told-7
+    at-least-requires-4
+    enum-known-n-4
+    enum-told-8
+    returns
+    returns-2
+    returns-3
+    returns-4
+    returns-5
+    returns-6
+    returns-7
+    returns-8
+    returns-9
+    returns-10
+    returns-11
+    returns-12
+    returns-13
+    returns-14
+    returns-15
+    returns-16
+    returns-17)

@@ -1,0 +1,29 @@
+-- What was read is what the definition gets. Assumes nothing.
+use mathlib.Core.Path.{sym, _∙_}
+use Rattle.parts.proofs.Reading.{value-at}
+use borrow.Author.Needs.{needs}
+use Rattle.parts.proofs.any_value.Statement.{statement}
+use Rattle.parts.proofs.any_value.Tie as tie
+
+read-value-requires : tie.Need-read-value-requires
+read-value-requires c κs = search needs
+
+enum-known-end : tie.Need-enum-known-end
+enum-known-end c = search needs
+
+enum-told : tie.Need-enum-told
+enum-told c = search needs
+
+returns : tie.Need-returns
+returns c =
+    let a = c .before .before .before .before .before .args in
+    value-at (a .s .now) (a .at) _ (sym (c .before .end .given .1) ∙ c .before .before .before .read-value .ensures)
+
+returns-2 : tie.Need-returns-2
+returns-2 c =
+    let a = c .before .before .before .before .args in
+    value-at (a .s .now) (a .at) _ (sym (c .enum-told .given .1) ∙ c .before .before .read-value .ensures)
+
+pub any-value-spec : {M : Type 1} → statement M
+any-value-spec =
+    tie.close (tie.spec read-value-requires enum-known-end enum-told returns returns-2)

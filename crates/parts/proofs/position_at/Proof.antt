@@ -1,0 +1,53 @@
+-- An integer, from which the base is taken off. Assumes nothing.
+use lib.ListN.{drop}
+use Rattle.parts.proofs.Steps as Steps
+use borrow.Author.Needs.{needs}
+use Rattle.parts.proofs.position_at.Statement.{statement}
+use Rattle.parts.proofs.position_at.Tie as tie
+
+any-integer-requires : tie.Need-any-integer-requires
+any-integer-requires c κs = search needs
+
+enum-known-z : tie.Need-enum-known-z
+enum-known-z c = search needs
+
+enum-told : tie.Need-enum-told
+enum-told c = search needs
+
+returns : tie.Need-returns
+returns c =
+    let a = c .before .before .before .before .args in
+    Steps.position-none (a .s .now) (drop (a .at) (a .s .now)) (c .before .before .any-integer .ensures) (a .base) (c .enum-told .given .1)
+
+field-of-requires : tie.Need-field-of-requires
+field-of-requires c κs = search needs
+
+enum-known-p : tie.Need-enum-known-p
+enum-known-p c = search needs
+
+enum-told-2 : tie.Need-enum-told-2
+enum-told-2 c = search needs
+
+returns-2 : tie.Need-returns-2
+returns-2 c =
+    let a = c .before .before .before .before .before .before .before .before .args in
+    Steps.position-below (a .s .now) (drop (a .at) (a .s .now)) (c .before .before .before .before .before .before .any-integer .ensures) (a .base) (c .before .before .before .before .z .given .1) (c .before .before .field-of .ensures) (c .enum-told2 .given .1)
+
+returns-3 : tie.Need-returns-3
+returns-3 c =
+    let a = c .before .before .before .before .before .before .before .before .before .args in
+    Steps.position-is (a .s .now) (drop (a .at) (a .s .now)) (c .before .before .before .before .before .before .before .any-integer .ensures) (a .base) (c .before .before .before .before .before .z .given .1) (c .before .before .before .field-of .ensures) (c .before .p .given .1)
+
+pub position-at-spec : {M : Type 1} → statement M
+position-at-spec =
+    tie.close
+    (tie.spec
+    any-integer-requires
+    enum-known-z
+    enum-told
+    returns
+    field-of-requires
+    enum-known-p
+    enum-told-2
+    returns-2
+    returns-3)

@@ -1,0 +1,2 @@
+-- What the code reads an operation from, as what the definitions get.
+pub mod Part

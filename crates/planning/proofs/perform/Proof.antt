@@ -1,0 +1,81 @@
+-- Each plan is one edit. Assumes nothing.
+use mathlib.Core.Path.{_≡_, sym, ap, _∙_}
+use mathlib.Core.List.{[], _∷_}
+use Rattle.first_bytes.specs.Bytes.{Bytes}
+use Rattle.engine.specs.Held.{edit}
+use Rattle.engine.proofs.Edits.{stopped}
+use Rattle.planning.specs.Plan.{performed}
+use Rattle.planning.specs.declared.Planned.{Planned}
+use Rattle.planning.proofs.Plans.{left-as}
+use borrow.Author.Needs.{needs}
+use Rattle.planning.proofs.perform.Statement.{statement}
+use Rattle.planning.proofs.perform.Tie as tie
+
+-- the step of the plan, as of what it is
+step : (o : tie.Start) {p : Planned} → o .args .plan ≡ p → (let a = o .args in performed p (a .list .now) (a .work .now) (a .scratch .now) (a .lengths .now) (a .n) ≡ performed (a .plan) (a .list .now) (a .work .now) (a .scratch .now) (a .lengths .now) (a .n))
+step o e = let a = o .args in sym (ap (λ (p : Planned). performed p (a .list .now) (a .work .now) (a .scratch .now) (a .lengths .now) (a .n)) e)
+
+enum-known-plan : tie.Need-enum-known-plan
+enum-known-plan c = search needs
+
+enum-known-plan-2 : tie.Need-enum-known-plan-2
+enum-known-plan-2 c = search needs
+
+bytes-of-requires : tie.Need-bytes-of-requires
+bytes-of-requires c κs = search needs
+
+put-in-requires : tie.Need-put-in-requires
+put-in-requires c κs = search needs
+
+enum-known-plan-3 : tie.Need-enum-known-plan-3
+enum-known-plan-3 c = search needs
+
+bytes-of-requires-2 : tie.Need-bytes-of-requires-2
+bytes-of-requires-2 c κs = search needs
+
+put-in-requires-2 : tie.Need-put-in-requires-2
+put-in-requires-2 c κs = search needs
+
+enum-known-plan-4 : tie.Need-enum-known-plan-4
+enum-known-plan-4 c = search needs
+
+cut-out-requires : tie.Need-cut-out-requires
+cut-out-requires c κs = search needs
+
+returns : tie.Need-returns
+returns c = stopped (step (c .before .before .before .before .before) (c .before .plan .given .1))
+
+returns-2 : tie.Need-returns-2
+returns-2 c =
+    let k = c .before .before .before .before in
+    let o = k .before .before .before .before .before in
+    let a = o .args in
+    left-as (ap (λ (p : Bytes). edit (k .before .plan2 .given .0 .0) 1 (p ∷ []) (a .scratch .now) (a .lengths .now) (a .n)) (c .before .bytes-of .ensures) ∙ step o (k .before .plan2 .given .1)) (c .put-in .ensures)
+
+returns-3 : tie.Need-returns-3
+returns-3 c =
+    let k = c .before .before .before .before in
+    let o = k .before .before .before .before .before in
+    let a = o .args in
+    left-as (ap (λ (p : Bytes). edit (k .before .plan3 .given .0 .0) (k .before .plan3 .given .0 .1 .0) (p ∷ []) (a .scratch .now) (a .lengths .now) (a .n)) (c .before .bytes-of2 .ensures) ∙ step o (k .before .plan3 .given .1)) (c .put-in2 .ensures)
+
+returns-4 : tie.Need-returns-4
+returns-4 c = let k = c .before .before .before in left-as (step (k .before .before .before .before .before) (k .before .plan4 .given .1)) (c .cut-out .ensures)
+
+pub perform-spec : {M : Type 1} → statement M
+perform-spec =
+    tie.close
+    (tie.spec
+    enum-known-plan
+    enum-known-plan-2
+    bytes-of-requires
+    put-in-requires
+    enum-known-plan-3
+    bytes-of-requires-2
+    put-in-requires-2
+    enum-known-plan-4
+    cut-out-requires
+    returns
+    returns-2
+    returns-3
+    returns-4)

@@ -1,0 +1,105 @@
+-- One law for each way back. Assumes nothing.
+use mathlib.Core.Path.{_≡_, _∙_}
+use Rattle.planning.specs.Plan.{fieldBytes}
+use Rattle.planning.proofs.Plans.{below-zero, past-fields, field-altered, field-refused, field-kept}
+use borrow.Author.Needs.{needs}
+use Rattle.planning.proofs.plan.Statement.{statement}
+use Rattle.planning.proofs.plan.Tie as tie
+
+-- the bytes that are handed on are the field's
+bytes : (b : tie.After-bytes-of) → (let a = b .before .before .before .before .before .before .before .before .before .before .before .args in b .bytes-of .result .now ≡ fieldBytes (a .scratch .now) (a .lengths .now) (b .before .before .before .before .before .field .given .0 .0))
+bytes b = b .bytes-of .ensures ∙ rw (b .before .before .end-of .ensures, b .before .end-of2 .ensures)
+
+enum-known-field : tie.Need-enum-known-field
+enum-known-field c = search needs
+
+enum-told : tie.Need-enum-told
+enum-told c = search needs
+
+returns : tie.Need-returns
+returns c = let a = c .before .before .before .before .before .before .args in below-zero (a .action) (a .list .now) (a .scratch .now) (a .lengths .now) (a .n) (a .work .now) (c .enum-told .given .1)
+
+plan-whole-requires : tie.Need-plan-whole-requires
+plan-whole-requires c κs = search needs
+
+returns-2 : tie.Need-returns-2
+returns-2 c = let a = c .before .before .before .before .before .before .before .before .before .args in past-fields (a .action) (a .list .now) (a .scratch .now) (a .lengths .now) (a .n) (a .work .now) (c .before .before .before .field .given .1) (c .before .if1 .taken) (c .plan-whole .ensures)
+
+end-of-requires : tie.Need-end-of-requires
+end-of-requires c κs = search needs
+
+add-end-of : tie.Need-add-end-of
+add-end-of c = search needs
+
+end-of-requires-2 : tie.Need-end-of-requires-2
+end-of-requires-2 c κs = search needs
+
+bytes-of-requires : tie.Need-bytes-of-requires
+bytes-of-requires c κs = search needs
+
+alter-requires : tie.Need-alter-requires
+alter-requires c κs = search needs
+
+enum-known-k : tie.Need-enum-known-k
+enum-known-k c = search needs
+
+enum-known-refusal : tie.Need-enum-known-refusal
+enum-known-refusal c = search needs
+
+enum-told-2 : tie.Need-enum-told-2
+enum-told-2 c = search needs
+
+plan-whole-requires-2 : tie.Need-plan-whole-requires-2
+plan-whole-requires-2 c κs = search needs
+
+same-length : tie.Need-same-length
+same-length c = search needs
+
+returns-3 : tie.Need-returns-3
+returns-3 c =
+    let b = c .before .before .before .before .before .before .before in
+    let a = b .before .before .before .before .before .before .before .before .before .before .before .args in
+    field-altered (a .action) (a .list .now) (a .scratch .now) (a .lengths .now) (a .n) (a .work .now) (b .before .before .before .before .before .field .given .1) (b .before .before .before .if1 .left) (bytes b) (c .before .before .before .before .before .alter .ensures) (c .before .k .given .1)
+
+same-length-2 : tie.Need-same-length-2
+same-length-2 c = search needs
+
+returns-4 : tie.Need-returns-4
+returns-4 c =
+    let b = c .before .before .before .before .before .before .before in
+    let a = b .before .before .before .before .before .before .before .before .before .before .before .args in
+    field-refused (a .action) (a .list .now) (a .scratch .now) (a .lengths .now) (a .n) (a .work .now) (b .before .before .before .before .before .field .given .1) (b .before .before .before .if1 .left) (bytes b) (c .before .before .before .before .before .alter .ensures) (c .before .refusal .given .1)
+
+same-length-3 : tie.Need-same-length-3
+same-length-3 c = search needs
+
+returns-5 : tie.Need-returns-5
+returns-5 c =
+    let b = c .before .before .before .before .before .before .before in
+    let a = b .before .before .before .before .before .before .before .before .before .before .before .args in
+    field-kept (a .action) (a .list .now) (a .scratch .now) (a .lengths .now) (a .n) (a .work .now) (b .before .before .before .before .before .field .given .1) (b .before .before .before .if1 .left) (bytes b) (c .before .before .before .before .before .alter .ensures) (c .before .enum-told2 .given .1) (c .plan-whole2 .ensures)
+
+pub plan-spec : {M : Type 1} → statement M
+plan-spec =
+    tie.close
+    (tie.spec
+    enum-known-field
+    enum-told
+    returns
+    plan-whole-requires
+    returns-2
+    end-of-requires
+    add-end-of
+    end-of-requires-2
+    bytes-of-requires
+    alter-requires
+    enum-known-k
+    enum-known-refusal
+    enum-told-2
+    plan-whole-requires-2
+    same-length
+    returns-3
+    same-length-2
+    returns-4
+    same-length-3
+    returns-5)

@@ -1,0 +1,2 @@
+-- What an operation plans, and what its plan does.
+pub mod Plan

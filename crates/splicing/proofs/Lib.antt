@@ -1,0 +1,2 @@
+-- The laws of spliced strings, each once. Assumes nothing.
+pub mod Strings

@@ -1,0 +1,24 @@
+-- Out of range where a part of the sum is. Assumes nothing.
+use native.Mathlib.Omega.{arith}
+use Rattle.sums.proofs.Signs as Signs
+use borrow.Author.Needs.{needs}
+use Rattle.sums.proofs.lowered.Statement.{statement}
+use Rattle.sums.proofs.lowered.Tie as tie
+
+returns : tie.Need-returns
+returns c = Signs.below-out _ (omega arith)
+
+returns-2 : tie.Need-returns-2
+returns-2 c = Signs.below-out _ (omega arith)
+
+add-below : tie.Need-add-below
+add-below c = search needs
+
+below-requires : tie.Need-below-requires
+below-requires c κs = search needs
+
+returns-3 : tie.Need-returns-3
+returns-3 c = search needs
+
+pub lowered-spec : {M : Type 1} → statement M
+lowered-spec = tie.close (tie.spec returns returns-2 add-below below-requires returns-3)

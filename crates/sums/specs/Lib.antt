@@ -1,0 +1,2 @@
+-- The range of integers.
+pub mod Range

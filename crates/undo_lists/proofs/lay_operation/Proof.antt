@@ -1,0 +1,92 @@
+-- Three pieces, written where the operation begins. Assumes nothing.
+use mathlib.Core.Path.{_≡_}
+use Prim.Native.Nat.{_+_}
+use native.Mathlib.Omega.{arith}
+use lib.ListN.{length}
+use Rattle.first_bytes.specs.Bytes.{Bytes}
+use Rattle.writing.specs.Forms.{unsignedForm}
+use Rattle.writing.proofs.Lengths.{unsigned-long}
+use Rattle.tuples.specs.Edit.{operationBytes}
+use Rattle.undo_lists.proofs.Piles.{operation-length, operation-written, no-room, with-room}
+use borrow.Author.Needs.{needs}
+use Rattle.undo_lists.proofs.lay_operation.Statement.{statement}
+use Rattle.undo_lists.proofs.lay_operation.Tie as tie
+
+abbrev operation : tie.Start → Bytes
+operation o = operationBytes (o .args .mark) (o .args .f) (o .args .argument .now)
+
+whole : (o : tie.Start) → length (operation o) ≡ 3 + length (unsignedForm (o .args .f)) + length (o .args .argument .now)
+whole o = operation-length (o .args .mark) (o .args .f) (o .args .argument .now)
+
+unsigned-length-requires : tie.Need-unsigned-length-requires
+unsigned-length-requires c κs = search needs
+
+add-long : tie.Need-add-long
+add-long c = let h = unsigned-long (c .before .before .before .args .f) in omega arith
+
+add-long-2 : tie.Need-add-long-2
+add-long-2 c = let h = unsigned-long (c .before .before .before .args .f) in omega arith
+
+add-result : tie.Need-add-result
+add-result c = search needs
+
+returns : tie.Need-returns
+returns c = let o = c .before .before .before .before in let e = whole o in no-room (operation o) (o .args .bytes) (o .args .undo .now) (omega arith)
+
+sub-room : tie.Need-sub-room
+sub-room c = search needs
+
+add-result-2 : tie.Need-add-result-2
+add-result-2 c = search needs
+
+returns-2 : tie.Need-returns-2
+returns-2 c = let o = c .before .before .before .before .before in let e = whole o in no-room (operation o) (o .args .bytes) (o .args .undo .now) (omega arith)
+
+slice-aggregate-write-bytes : tie.Need-slice-aggregate-write-bytes
+slice-aggregate-write-bytes c = search needs
+
+write-bytes-requires : tie.Need-write-bytes-requires
+write-bytes-requires c κs = search needs
+
+write-unsigned-requires : tie.Need-write-unsigned-requires
+write-unsigned-requires c κs = search needs
+
+write-bytes-requires-2 : tie.Need-write-bytes-requires-2
+write-bytes-requires-2 c κs = search needs
+
+add-result-3 : tie.Need-add-result-3
+add-result-3 c = search needs
+
+same-length : tie.Need-same-length
+same-length c = search needs
+
+returns-3 : tie.Need-returns-3
+returns-3 c =
+    let w = c .before .before in
+    let u = w .before .before .before .before in
+    let h = u .before .before .before .before in
+    let o = c .before .before .before .before .before .before .before .before .before .before .before .before .before .before .before .before .before .before in
+    let a = o .args in
+    let e = whole o in
+    with-room (operation o) (a .bytes) (a .undo .now) (omega arith) (omega arith) (omega arith)
+    (operation-written (a .undo .now) _ (a .mark) (a .f) (a .argument .now) (omega arith) (h .write-bytes .ensures) (u .write-unsigned .ensures) (w .write-bytes2 .ensures))
+
+pub lay-operation-spec : {M : Type 1} → statement M
+lay-operation-spec =
+    tie.close
+    (tie.spec
+    unsigned-length-requires
+    add-long
+    add-long-2
+    add-result
+    returns
+    sub-room
+    add-result-2
+    returns-2
+    slice-aggregate-write-bytes
+    write-bytes-requires
+    write-unsigned-requires
+    write-bytes-requires-2
+    add-result-3
+    same-length
+    returns-3)

@@ -1,0 +1,65 @@
+-- The operations of the first `i` removed fields are laid. Assumes nothing.
+use mathlib.Core.Path.{_≡_, refl, _∙_}
+use Prim.Native.Nat.{_-_, _≤_}
+use native.Mathlib.Omega.{arith}
+use lib.ListN.{length}
+use Rattle.tuples.specs.Edit.{restored}
+use Rattle.undo_lists.specs.Inverse.{fieldsFrom}
+use Rattle.undo_lists.proofs.Inverses.{LaysAll, removed-none, removed-turn}
+use Rattle.undo_lists.proofs.lay_removed.Statement.{statement}
+use Rattle.undo_lists.proofs.lay_removed.Tie as tie
+
+abbrev Inv-loop : tie.InvT-loop
+Inv-loop undo₀ bytes f m scratch lengths b₀ i₀ undo b i = (i ≤ m) × (length undo ≡ length undo₀) × LaysAll (restored f (fieldsFrom scratch lengths f i)) bytes undo₀ b undo
+
+abbrev μ-loop : tie.MeasureT-loop
+μ-loop undo₀ bytes f m scratch lengths b₀ i₀ undo b i = m - i
+
+loop-holds : tie.Need-loop-holds Inv-loop μ-loop
+loop-holds c = let a = c .before .before .before .args in (omega arith, refl, removed-none (a .scratch .now) (a .lengths .now) (a .f) (a .bytes) (a .undo .now))
+
+add-lay-field : tie.Need-add-lay-field Inv-loop μ-loop
+add-lay-field c = omega arith
+
+lay-field-requires : tie.Need-lay-field-requires Inv-loop μ-loop
+lay-field-requires c κs = omega arith
+
+add-i : tie.Need-add-i Inv-loop μ-loop
+add-i c = omega arith
+
+loop-less : tie.Need-loop-less Inv-loop μ-loop
+loop-less c = omega arith
+
+loop-again : tie.Need-loop-again Inv-loop μ-loop
+loop-again c =
+    let k = c .before .before in
+    let l = k .before .before .before in
+    let a = l .before .before .before .before .args in (
+      omega arith,
+      k .lay-field .kept .0 ∙ l .loop .inv .1,
+      removed-turn (a .scratch .now) (a .lengths .now) (a .f) (l .loop .i) (a .bytes) (a .undo .now) (l .loop .inv .1) (l .loop .inv .2) (k .lay-field .ensures),
+    )
+
+same-length : tie.Need-same-length Inv-loop μ-loop
+same-length c = omega arith
+
+returns : tie.Need-returns Inv-loop μ-loop
+returns c =
+    let l = c .before in
+    let e : l .loop .i ≡ l .before .before .before .before .args .m = omega arith in
+    rw (← e) (l .loop .inv .2)
+
+pub lay-removed-spec : {M : Type 1} → statement M
+lay-removed-spec =
+    tie.close
+    (tie.spec
+    Inv-loop
+    μ-loop
+    loop-holds
+    add-lay-field
+    lay-field-requires
+    add-i
+    loop-less
+    loop-again
+    same-length
+    returns)

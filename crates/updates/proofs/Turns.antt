@@ -1,0 +1,78 @@
+-- A run goes from one operation to the next. Assumes nothing.
+use mathlib.Core.Path.{_≡_, refl, sym, ap, _∙_}
+use mathlib.Core.List.{List, [], _++_, append-assoc, append-nil}
+use Prim.Native.Nat.{ℕ, suc, _+_, _-_, _<_}
+use native.Mathlib.Omega.{arith}
+use native.Mathlib.Nat.{sub-zero}
+use lib.ListN.{length, drop, length-append}
+use Rattle.first_bytes.specs.Bytes.{Bytes}
+use Rattle.tuples.specs.Tuple.{Fields}
+use Rattle.tuples.specs.Operation.{operation}
+use Rattle.tuples.specs.Edit.{stop, next, perform, refused, inverse}
+use Rattle.tuples.specs.declared.Refusal.{Refusal}
+use Rattle.engine.specs.Held.{fieldsIn, Fit}
+use Rattle.undo_lists.specs.Laying.{Piled}
+use Rattle.undo_lists.proofs.Piles.{none-piled, piled-all}
+use Rattle.updates.specs.Running.{planIn, after, runFrom, undoFrom, Onward, Through}
+use Rattle.updates.specs.declared.run.Stage.{Stage}
+
+module _ (base i n : ℕ) (s : Bytes) (t : Fields) where
+  stops : {k : Refusal} → perform (planIn (operation base s) t) t ≡ stop k → runFrom base i (suc n) s t ≡ refused k i
+  unfolding runFrom
+  stops e = rw e
+
+  goes-on : {u : Fields} → perform (planIn (operation base s) t) t ≡ next u → runFrom base i (suc n) s t ≡ runFrom base (i + 1) n (after (operation base s)) u
+  unfolding runFrom
+  goes-on e = let h : i + 1 ≡ suc i = omega arith in rw (e, h)
+
+  undoes : {u : Fields} → perform (planIn (operation base s) t) t ≡ next u
+      → undoFrom base (suc n) s t ≡ undoFrom base n (after (operation base s)) u ++ inverse (planIn (operation base s) t) t
+  unfolding undoFrom
+  undoes e = rw e
+
+-- i operations of n are performed: what is left to do is what was to be done; and the operations us lie on the undo list
+pub record Sofar (base n : ℕ) (from : Bytes) (t₀ : Fields) (list scratch : Bytes) (lengths : List ℕ) (undo : Bytes) (z : Stage) (i : ℕ) : Type 0 where
+  pub goes : runFrom base i (n - i) (drop (z .at) list) (fieldsIn scratch lengths (z .fields)) ≡ runFrom base 0 n from t₀
+  pub us : List Bytes
+  pub piled : Piled undo (z .bytes) us
+  pub laid : z .laid ≡ length us
+  pub all : undoFrom base (n - i) (drop (z .at) list) (fieldsIn scratch lengths (z .fields)) ++ us ≡ undoFrom base n from t₀
+
+pub begin : (base n : ℕ) (list scratch : Bytes) (lengths : List ℕ) (undo : Bytes) (fields start : ℕ)
+    → Sofar base n (drop start list) (fieldsIn scratch lengths fields) list scratch lengths undo (record { fields = fields; laid = 0; bytes = 0; at = start }) 0
+begin base n list scratch lengths undo fields start =
+    record { goes = rw sub-zero; us = []; piled = none-piled undo; laid = refl; all = rw (sub-zero, append-nil) }
+
+module _ {base n : ℕ} {from : Bytes} {t₀ : Fields} {list scratch : Bytes} {lengths : List ℕ} {undo : Bytes} {z : Stage} {i : ℕ}
+    (f : Sofar base n from t₀ list scratch lengths undo z i) where
+  pub run-stops : {k : Refusal} → i < n
+      → perform (planIn (operation base (drop (z .at) list)) (fieldsIn scratch lengths (z .fields))) (fieldsIn scratch lengths (z .fields)) ≡ stop k
+      → runFrom base 0 n from t₀ ≡ refused k i
+  run-stops h e =
+      let m : n - i ≡ suc (n - (i + 1)) = omega arith in
+      sym (f .goes) ∙ rw m (stops base i (n - (i + 1)) (drop (z .at) list) (fieldsIn scratch lengths (z .fields)) e)
+
+  pub run-goes : {z' : Stage} {scratch' : Bytes} {lengths' : List ℕ} {undo' : Bytes} → i < n
+      → Onward z' scratch' lengths' undo' list undo z (operation base (drop (z .at) list)) (fieldsIn scratch lengths (z .fields))
+      → Sofar base n from t₀ list scratch' lengths' undo' z' (i + 1)
+  run-goes {z'} {scratch'} {lengths'} h o =
+      let m : n - i ≡ suc (n - (i + 1)) = omega arith in
+      let s = drop (z .at) list in
+      let t = fieldsIn scratch lengths (z .fields) in
+      let v = inverse (planIn (operation base s) t) t in
+      let k : undoFrom base (suc (n - (i + 1))) s t ≡ undoFrom base (n - (i + 1)) (drop (z' .at) list) (fieldsIn scratch' lengths' (z' .fields)) ++ v
+      = undoes base i (n - (i + 1)) s t (o .goes) ∙ rw (o .rest) in
+      record {
+        goes = sym (goes-on base i (n - (i + 1)) s t (o .goes) ∙ rw (o .rest)) ∙ rw (← m) (f .goes);
+        us = v ++ f .us;
+        piled = rw (o .buffer, o .bytes) (piled-all v (f .us) undo (z .bytes) (f .piled));
+        laid = o .laid ∙ (let e = length-append v (f .us) in let d = f .laid in omega arith);
+        all = sym (append-assoc (undoFrom base (n - (i + 1)) (drop (z' .at) list) (fieldsIn scratch' lengths' (z' .fields))) v (f .us)) ∙ ap (λ (l : List Bytes). l ++ f .us) (sym k) ∙ rw (← m) (f .all);
+      }
+
+  pub run-through : i ≡ n → Fit scratch lengths (z .fields) → Through z scratch lengths undo base n from t₀
+  unfolding runFrom undoFrom
+  run-through e fit =
+      let m : n - i ≡ 0 = omega arith in
+      let a : f .us ≡ undoFrom base n from t₀ = rw m at (f .all) in
+      record { goes = sym (rw m at (f .goes)); fit = fit; laid = f .laid ∙ ap length a; piled = rw (← a) (f .piled) }

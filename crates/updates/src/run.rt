@@ -1,0 +1,173 @@
+// The operations of a list, from the first to the last.
+use engine::Edited;
+use operations::Action;
+use operations::Ended;
+use operations::Opened;
+use planning::Planned;
+use scalars::Int;
+use tuples::MAX_FIELDS;
+use tuples::MAX_TUPLE;
+use tuples::Refusal;
+ghost use mathlib.Core.Path.{_≡_};
+ghost use Prim.Native.Nat.{_*_, _<_, _≤_};
+ghost use lib.ListN.{length, drop};
+ghost use Rattle.tuples.specs.Limits.{maxFields, maxTuple, maxOperations};
+ghost use Rattle.tuples.specs.Operation.{operation};
+ghost use Rattle.engine.specs.Held.{fieldsIn, Fit};
+ghost use Rattle.updates.specs.Running.{Decodes, Prepares, weightOf, Steps, Runs};
+
+// An operation's field number as it was sent, its action, and the place after it.
+enum Decoded {
+    Is(Int, Action, usize),
+    Bad,
+}
+
+// A plan, and the place of the next operation.
+struct Prepared {
+    plan: Planned,
+    end: usize,
+}
+
+// Between two operations: so many fields are held; so many operations lie on the undo list, of so
+// many bytes; and where the next operation stands.
+pub(crate) struct Stage {
+    pub fields: usize,
+    pub laid: usize,
+    pub bytes: usize,
+    pub at: usize,
+}
+
+enum Stepped {
+    Stop(Refusal),
+    Next(Stage),
+}
+
+// All were performed; or one was refused, with its index.
+pub(crate) enum Ran {
+    Refused(Refusal, usize),
+    Done(Stage),
+}
+
+fn operation_at(list: &[u8], at: usize, base: u64) -> Decoded
+    ensures { λ r. ⌜ Decodes base (now (list .entry)) r (operation base (drop at (now (list .entry)))) ⌝ }
+{
+    let Opened::Is(count, mark, number, after) = operations::opening_at(list, at) else {
+        return Decoded::Bad;
+    };
+    let action = operations::action_at(list, after, count, mark, base);
+    let Ended::At(end) = operations::end_of(action) else {
+        return Decoded::Bad;
+    };
+    Decoded::Is(number, action, end)
+}
+
+// The operation at `at`, planned on the n fields that are held.
+fn prepare(
+    list: &[u8],
+    at: usize,
+    base: u64,
+    scratch: &[u8],
+    lengths: &[usize],
+    n: usize,
+    work: &mut [u8],
+) -> Prepared
+    requires { ⌜ Fit (now scratch) (now lengths) n × (maxTuple ≤ length (now work)) ⌝ }
+    ensures { λ r. ⌜ Prepares r (now (list .entry)) (now (work .exit)) (operation base (drop at (now (list .entry))))
+        (fieldsIn (now (scratch .entry)) (now (lengths .entry)) n) ⌝ }
+{
+    let Decoded::Is(number, action, end) = operation_at(list, at, base) else {
+        return Prepared {
+            plan: Planned::Refuse(Refusal::BadList),
+            end: at,
+        };
+    };
+    let plan = planning::plan(
+        parts::field_of(number, base),
+        action,
+        list,
+        scratch,
+        lengths,
+        n,
+        work,
+    );
+    Prepared { plan, end }
+}
+
+// How many operations take a plan back.
+fn weight(plan: Planned) -> usize
+    ensures { λ r. ⌜ r ≡ weightOf plan ⌝ }
+{
+    match plan {
+        Planned::Refuse(_) => 0,
+        Planned::Alter(_, _) => 1,
+        Planned::Bring(_, _, _, _) => 1,
+        Planned::Cut(_, m) => m,
+    }
+}
+
+// The operation that stands next. What takes it back is laid before it is performed.
+fn step(
+    list: &[u8],
+    base: u64,
+    scratch: &mut [u8; MAX_TUPLE],
+    lengths: &mut [usize; MAX_FIELDS],
+    work: &mut [u8; MAX_TUPLE],
+    undo: &mut [u8],
+    stage: Stage,
+) -> Stepped
+    requires { ⌜ Fit (now scratch) (now lengths) (stage .fields) ⌝ }
+    requires { ⌜ stage .laid ≤ maxOperations * maxFields ⌝ }
+    ensures { λ r. ⌜ Steps r (now (scratch .exit)) (now (lengths .exit)) (now (undo .exit)) (now (list .entry)) (now (undo .entry)) stage
+        (operation base (drop (stage .at) (now (list .entry)))) (fieldsIn (now (scratch .entry)) (now (lengths .entry)) (stage .fields)) ⌝ }
+{
+    let fields = stage.fields;
+    let next = prepare(list, stage.at, base, scratch, lengths, fields, work);
+    let plan = next.plan;
+    let bytes = undo_lists::lay_inverse(undo, stage.bytes, plan, scratch, lengths);
+    match planning::perform(plan, list, work, scratch, lengths, fields) {
+        Edited::Stop(refusal) => Stepped::Stop(refusal),
+        Edited::Next(n) => Stepped::Next(Stage {
+            fields: n,
+            laid: stage.laid + weight(plan),
+            bytes,
+            at: next.end,
+        }),
+    }
+}
+
+// `count` operations from `start` on.
+pub(crate) fn run(
+    list: &[u8],
+    start: usize,
+    count: usize,
+    base: u64,
+    scratch: &mut [u8; MAX_TUPLE],
+    lengths: &mut [usize; MAX_FIELDS],
+    n: usize,
+    work: &mut [u8; MAX_TUPLE],
+    undo: &mut [u8],
+) -> Ran
+    requires { ⌜ Fit (now scratch) (now lengths) n × (count ≤ maxOperations) ⌝ }
+    ensures { λ r. ⌜ Runs r (now (scratch .exit)) (now (lengths .exit)) (now (undo .exit)) base count (drop start (now (list .entry)))
+        (fieldsIn (now (scratch .entry)) (now (lengths .entry)) n) ⌝ }
+{
+    let mut stage = Stage {
+        fields: n,
+        laid: 0,
+        bytes: 0,
+        at: start,
+    };
+    let mut i: usize = 0;
+    while i < count {
+        match step(list, base, scratch, lengths, work, undo, stage) {
+            Stepped::Stop(refusal) => {
+                return Ran::Refused(refusal, i);
+            }
+            Stepped::Next(next) => {
+                stage = next;
+            }
+        }
+        i += 1;
+    }
+    Ran::Done(stage)
+}

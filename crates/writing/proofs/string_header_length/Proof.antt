@@ -1,0 +1,18 @@
+-- `string_header_length`: a form is as long as its head says. Assumes nothing.
+use native.Mathlib.Omega.{arith}
+use Rattle.writing.proofs.Lengths.{head-length, string-long}
+use Rattle.writing.proofs.string_header_length.Statement.{statement}
+use Rattle.writing.proofs.string_header_length.Tie as tie
+use borrow.Author.Needs.{needs}
+
+string-head-requires : tie.Need-string-head-requires
+string-head-requires c κs = search needs
+
+add-result : tie.Need-add-result
+add-result c = omega (arith, head-length _ _ _ (c .before .string-head .ensures), string-long (c .before .before .args .n) .1)
+
+returns : tie.Need-returns
+returns c = head-length _ _ _ (c .before .string-head .ensures)
+
+pub string-header-length-spec : {M : Type 1} → statement M
+string-header-length-spec = tie.close (tie.spec string-head-requires add-result returns)
