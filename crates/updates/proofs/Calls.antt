@@ -7,13 +7,13 @@ use Prim.Native.Nat.{ℕ, zero, suc, _≤_}
 use native.Mathlib.Omega.{arith}
 use lib.ListN.{length, take, drop}
 use Rattle.first_bytes.specs.Bytes.{Bytes}
-use Rattle.tuples.specs.Limits.{maxFields, maxTuple}
+use Rattle.tuples.specs.Limits.{maxFields, maxTuple, maxOperations}
 use Rattle.writing.specs.Forms.{arrayHeader}
 use Rattle.tuples.specs.Tuple.{Fields, plain, fieldsOf}
 use Rattle.tuples.specs.Decoding.{Got, fails, gets}
 use Rattle.tuples.specs.Operation.{Operation, operation, before, andMore, operations, operationsOf}
-use Rattle.tuples.specs.Edit.{planOf, Plan, plans, step, Step, stop, next, perform, Run, refused, done, run, onward, undoOf, onStep, inverse}
-use Rattle.tuples.specs.Call.{Outcome, refusal, bytes, judged, onRun, updateOf, update, Result, delivered, updateCall}
+use Rattle.tuples.specs.Edit.{planOf, Plan, plans, step, Step, stop, next, perform, Run, run, onward, undoOf, onStep, inverse}
+use Rattle.tuples.specs.Call.{Outcome, refusal, bytes, judged, onRun, updateOf, update, undoListOf, undo, Result, delivered, updateCall, undoCall}
 use Rattle.tuples.specs.declared.Refusal.{Refusal}
 use Rattle.tuples.specs.declared.Refusal.the-variants.{BadTuple, BadList}
 use Rattle.tuples.proofs.Legal.{plain-length}
@@ -28,8 +28,10 @@ use Rattle.operations.specs.Listing.{present, listed}
 use Rattle.operations.specs.declared.Listed.{Listed}
 use Rattle.operations.specs.declared.Listed.the-variants.{Good, Bad as BadListed}
 use Rattle.operations.proofs.Listing.{Judged, good, bad}
-use Rattle.updates.specs.Running.{planIn, after, runFrom, undoFrom}
-use Rattle.updates.specs.Beginning.{Begin}
+use Rattle.updates.specs.Running.{planIn, after, runFrom, undoFrom, Runs}
+use Rattle.updates.specs.declared.run.Ran.{Ran}
+use Rattle.updates.specs.declared.run.Ran.the-variants.{Refused, Done}
+use Rattle.updates.specs.Carrying.{Refuses, Carries}
 
 never : {A : Type 0} → _≡_ {A = ℕ} 0 1 → A
 never e = absurd (omega arith)
@@ -99,19 +101,19 @@ module _ (tuple : Bytes) {r : Loaded} {s' : Bytes} {l' : List ℕ} {s : Bytes} {
           let c : l' ≡ over (lengthsOf t) l = h .table ∙ ap (λ (u : Fields). over (lengthsOf u) l) (measured-all tuple e) in
           rw (b, c, x) (e ∙ ap some (sym (held-over t s l)), fit-over t s l (k .few) (omega arith) i j)
 
+-- the tuple's fields are held, and the operations of the list stand from a place on
+pub record Begin (scratch : Bytes) (lengths : List ℕ) (tuple list : Bytes) (base n count start : ℕ) : Type 0 where
+  pub fields : fieldsOf tuple ≡ some (fieldsIn scratch lengths n)
+  pub fit : Fit scratch lengths n
+  pub few : count ≤ maxOperations
+  pub os : List Operation
+  pub there : operations base count (drop start list) ≡ some os
+  pub all : operationsOf base list ≡ some os
+
 module _ (tuple list : Bytes) (base : ℕ) where
-  pub begin-bad-tuple : fieldsOf tuple ≡ none → (go : Fields → List Plan → Outcome) → judged (fieldsOf tuple) (operationsOf base list) go ≡ refusal BadTuple 0
-  unfolding judged
-  begin-bad-tuple e go = rw e
-
-  pub begin-bad-list : {t : Fields} → fieldsOf tuple ≡ some t → {y : Listed} → y ≡ listed base list → y ≡ BadListed
-      → (go : Fields → List Plan → Outcome) → judged (fieldsOf tuple) (operationsOf base list) go ≡ refusal BadList 0
-  unfolding judged
-  begin-bad-list e h q go = rw (e, bad base list h q)
-
-  pub begin-ready : {s : Bytes} {l : List ℕ} {n count start : ℕ} → fieldsOf tuple ≡ some (fieldsIn s l n) → Fit s l n → {y : Listed} → y ≡ listed base list
+  pub begin : {s : Bytes} {l : List ℕ} {n count start : ℕ} → fieldsOf tuple ≡ some (fieldsIn s l n) → Fit s l n → {y : Listed} → y ≡ listed base list
       → y ≡ Good count start → Begin s l tuple list base n count start
-  begin-ready {s} {l} {n} {count} {start} e fit h q = go (operations base count (drop start list)) refl (j .there)
+  begin {s} {l} {n} {count} {start} e fit h q = go (operations base count (drop start list)) refl (j .there)
     where
       j : Judged base list count start
       j = good base list h q
@@ -120,35 +122,52 @@ module _ (tuple list : Bytes) (base : ℕ) where
       go none i p = never (let w : present {A = List Operation} none ≡ true = rw i at p in cc)
       go (some os) i p = record { fields = e; fit = fit; few = j .few; os = os; there = i; all = j .all ∙ i }
 
--- ---- what the update call is to give
+  -- ---- what the two calls are to give
 
-module _ (tuple list : Bytes) (base : ℕ) where
+  both : {k : Refusal} → ((go : Fields → List Plan → Outcome) → judged (fieldsOf tuple) (operationsOf base list) go ≡ refusal k 0) → Refuses k 0 tuple list base
+  unfolding update undo
+  both h = (omega arith, h updateOf, h undoListOf)
+
+  pub bad-tuple : fieldsOf tuple ≡ none → Refuses BadTuple 0 tuple list base
+  unfolding judged
+  bad-tuple e = both (λ go. rw e)
+
+  pub bad-list : {t : Fields} → fieldsOf tuple ≡ some t → {y : Listed} → y ≡ listed base list → y ≡ BadListed → Refuses BadList 0 tuple list base
+  unfolding judged
+  bad-list e h q = both (λ go. rw (e, bad base list h q))
+
   module _ {s : Bytes} {l : List ℕ} {n count start : ℕ} (b : Begin s l tuple list base n count start) where
-    pub judged-is : (go : Fields → List Plan → Outcome) → judged (fieldsOf tuple) (operationsOf base list) go ≡ go (fieldsIn s l n) (plans (b .os))
+    judged-is : (go : Fields → List Plan → Outcome) → judged (fieldsOf tuple) (operationsOf base list) go ≡ go (fieldsIn s l n) (plans (b .os))
     unfolding judged
     judged-is go = rw (b .fields, b .all)
 
-    pub runs-is : run 0 (plans (b .os)) (fieldsIn s l n) ≡ runFrom base 0 count (drop start list) (fieldsIn s l n)
+    runs-is : run 0 (plans (b .os)) (fieldsIn s l n) ≡ runFrom base 0 count (drop start list) (fieldsIn s l n)
     runs-is = sym (run-is base 0 count (drop start list) (b .os) (fieldsIn s l n) (b .there))
 
-    pub update-refused : {k : Refusal} {i : ℕ} → runFrom base 0 count (drop start list) (fieldsIn s l n) ≡ refused k i → update tuple list base ≡ refusal k i
-    unfolding update updateOf onRun
-    update-refused e = judged-is updateOf ∙ rw (runs-is, e)
+    pub carries : (r : Ran) (s' : Bytes) (l' : List ℕ) (back : Bytes) → Runs r s' l' back base count (drop start list) (fieldsIn s l n) → Carries r s' l' back tuple list base
+    unfolding update updateOf undo undoListOf onRun
+    carries (Refused k i) s' l' back h = (omega (arith, b .few, h .1), judged-is updateOf ∙ rw (runs-is, h .0), judged-is undoListOf ∙ rw (runs-is, h .0))
+    carries (Done z) s' l' back h = record {
+      fit = h .fit;
+      updated = judged-is updateOf ∙ rw (runs-is, h .goes);
+      us = undoFrom base count (drop start list) (fieldsIn s l n);
+      undone = judged-is undoListOf ∙ rw (runs-is, h .goes, ← undo-is base count (drop start list) (b .os) (fieldsIn s l n) (b .there));
+      laid = h .laid;
+      piled = h .piled;
+    }
 
-    pub update-done : {s' : Bytes} {l' : List ℕ} {m : ℕ} → runFrom base 0 count (drop start list) (fieldsIn s l n) ≡ done (fieldsIn s' l' m) → Fit s' l' m
-        → update tuple list base ≡ bytes (arrayHeader m ++ take (endOf l' m) s')
-    unfolding update updateOf onRun plain
-    update-done {s'} {l'} {m} e fit =
-        judged-is updateOf ∙ rw (runs-is, e) (ap bytes (rw (field-count fit, joined-in fit)))
-
-  pub update-unbegun : {k : Refusal} → ((go : Fields → List Plan → Outcome) → judged (fieldsOf tuple) (operationsOf base list) go ≡ refusal k 0)
-      → update tuple list base ≡ refusal k 0
-  unfolding update
-  update-unbegun h = h updateOf
-
-  pub seen-as : {o : Outcome} {r : Result} (out : Bytes) → update tuple list base ≡ o → r ≡ delivered o out → r ≡ updateCall tuple list base out
+  pub seen-update : {o : Outcome} {r : Result} (out : Bytes) → update tuple list base ≡ o → r ≡ delivered o out → r ≡ updateCall tuple list base out
   unfolding updateCall
-  seen-as out e h = h ∙ rw e
+  seen-update out e h = h ∙ rw e
+
+  pub seen-undo : {o : Outcome} {r : Result} (out : Bytes) → undo tuple list base ≡ o → r ≡ delivered o out → r ≡ undoCall tuple list base out
+  unfolding undoCall
+  seen-undo out e h = h ∙ rw e
+
+-- the plain form of the fields that are held
+pub plain-held : {s : Bytes} {l : List ℕ} {n : ℕ} → Fit s l n → plain (fieldsIn s l n) ≡ arrayHeader n ++ take (endOf l n) s
+unfolding plain
+plain-held fit = rw (field-count fit, joined-in fit)
 
 -- what is held lies within the scratch array
 pub end-inside : {s : Bytes} {l : List ℕ} {n : ℕ} → Fit s l n → endOf l n ≤ length s

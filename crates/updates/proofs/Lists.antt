@@ -1,5 +1,5 @@
 -- The undo list, from the end of its buffer to what the undo call gives. Assumes nothing.
-use mathlib.Core.Path.{_≡_, refl, sym, _∙_}
+use mathlib.Core.Path.{_≡_, refl, _∙_}
 use mathlib.Core.Bool.{Bool, true, false, _&&_}
 use mathlib.Core.List.{List, _++_}
 use mathlib.Core.Logic.{⊎-elim}
@@ -14,20 +14,12 @@ use Rattle.values.specs.Pieces.{joined}
 use Rattle.writing.specs.Forms.{arrayHeader}
 use Rattle.writing.proofs.Choice.{either}
 use Rattle.tuples.specs.Limits.{maxOperations, maxList}
-use Rattle.tuples.specs.Tuple.{Fields, plain, fieldsOf}
-use Rattle.tuples.specs.Operation.{operationsOf}
-use Rattle.tuples.specs.Edit.{Plan, refused}
-use Rattle.tuples.specs.Call.{Outcome, refusal, bytes, judged, onRun, limitedList, undoListOf, undo, Result, delivered, undoCall}
-use Rattle.tuples.specs.declared.Refusal.{Refusal}
+use Rattle.tuples.specs.Tuple.{plain}
+use Rattle.tuples.specs.Call.{Outcome, refusal, bytes, limitedList, undo, Result, delivered}
 use Rattle.tuples.specs.declared.Refusal.the-variants.{LongUndo}
 use Rattle.tuples.proofs.Legal.{plain-length}
-use Rattle.engine.specs.Held.{fieldsIn}
 use Rattle.undo_lists.specs.Laying.{Piled}
-use Rattle.updates.specs.Running.{runFrom, undoFrom, Through}
-use Rattle.updates.specs.Beginning.{Begin}
 use Rattle.updates.specs.Listing.{listIn}
-use Rattle.updates.specs.declared.run.Stage.{Stage}
-use Rattle.updates.proofs.Calls.{undo-is, judged-is, runs-is}
 
 -- ---- by the tests
 
@@ -56,7 +48,7 @@ and-false : (a : Bool) → (a && false) ≡ false
 and-false true = refl
 and-false false = refl
 
-limited-is : (back : Bytes) (b n : ℕ) (us : List Bytes) → Piled back b us → length back ≡ maxList → n ≡ length us → listIn back n b ≡ limitedList us
+pub limited-is : (back : Bytes) (b n : ℕ) (us : List Bytes) → Piled back b us → length back ≡ maxList → n ≡ length us → listIn back n b ≡ limitedList us
 unfolding listIn limitedList plain
 limited-is back b n us p l e = ⊎-elim (λ h. fitting h) (λ h. past h) (either (length (joined us)) (length back))
   where
@@ -73,28 +65,3 @@ limited-is back b n us p l e = ⊎-elim (λ h. fitting h) (λ h. past h) (either
           and-false (leb n maxOperations),
           and-false (leb (length us) maxOperations),
         )
-
--- ---- what the undo call is to give
-
-module _ (tuple list : Bytes) (base : ℕ) where
-  pub undo-unbegun : {k : Refusal} → ((go : Fields → List Plan → Outcome) → judged (fieldsOf tuple) (operationsOf base list) go ≡ refusal k 0)
-      → undo tuple list base ≡ refusal k 0
-  unfolding undo
-  undo-unbegun h = h undoListOf
-
-  module _ {s : Bytes} {l : List ℕ} {n count start : ℕ} (q : Begin s l tuple list base n count start) where
-    pub undo-refused : {k : Refusal} {i : ℕ} → runFrom base 0 count (drop start list) (fieldsIn s l n) ≡ refused k i → undo tuple list base ≡ refusal k i
-    unfolding undo undoListOf onRun
-    undo-refused e = judged-is tuple list base q undoListOf ∙ rw (runs-is tuple list base q, e)
-
-    pub undo-done : {z : Stage} {s' : Bytes} {l' : List ℕ} {back : Bytes} → Through z s' l' back base count (drop start list) (fieldsIn s l n) → length back ≡ maxList
-        → undo tuple list base ≡ listIn back (z .laid) (z .bytes)
-    unfolding undo undoListOf onRun
-    undo-done {z} {s'} {l'} {back} t h =
-        judged-is tuple list base q undoListOf
-        ∙ rw (runs-is tuple list base q, t .goes, ← undo-is base count (drop start list) (q .os) (fieldsIn s l n) (q .there))
-        (sym (limited-is back (z .bytes) (z .laid) (undoFrom base count (drop start list) (fieldsIn s l n)) (t .piled) h (t .laid)))
-
-  pub seen-undo : {o : Outcome} {r : Result} (out : Bytes) → undo tuple list base ≡ o → r ≡ delivered o out → r ≡ undoCall tuple list base out
-  unfolding undoCall
-  seen-undo out e h = h ∙ rw e

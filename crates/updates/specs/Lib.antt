@@ -1,4 +1,4 @@
 -- A run of operations, straight from the bytes of a list.
 pub mod Running
-pub mod Beginning
+pub mod Carrying
 pub mod Listing

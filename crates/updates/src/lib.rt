@@ -1,8 +1,8 @@
 // The update call and the undo call.
-mod begin;
+mod carrying;
 mod run;
 
-use begin::Begun;
+use carrying::carry_out;
 use run::Ran;
 use tuples::Answer;
 use tuples::MAX_FIELDS;
@@ -24,29 +24,20 @@ pub fn update(tuple: &[u8], list: &[u8], index_base: u64, out: &mut [u8]) -> Ans
 {
     let mut scratch = [0u8; MAX_TUPLE];
     let mut lengths = [0usize; MAX_FIELDS];
-    let mut work = [0u8; MAX_TUPLE];
-    let mut nothing = [0u8; 1];
-    match begin::begin(tuple, list, index_base, &mut scratch, &mut lengths) {
-        Begun::Refused(refusal) => answers::refused(refusal, 0),
-        Begun::Ready(n, count, start) => {
-            match run::run(
-                list,
-                start,
-                count,
-                index_base,
-                &mut scratch,
-                &mut lengths,
-                n,
-                &mut work,
-                &mut nothing[..0],
-            ) {
-                Ran::Refused(refusal, i) => answers::refused(refusal, i as u32),
-                Ran::Done(stage) => {
-                    let fields = stage.fields;
-                    let bytes = engine::end_of(&lengths, fields);
-                    answers::deliver(fields as u32, &scratch[..bytes], out)
-                }
-            }
+    let mut none = [0u8; 1];
+    match carry_out(
+        tuple,
+        list,
+        index_base,
+        &mut scratch,
+        &mut lengths,
+        &mut none[..0],
+    ) {
+        Ran::Refused(refusal, i) => answers::refused(refusal, i as u32),
+        Ran::Done(stage) => {
+            let fields = stage.fields;
+            let bytes = engine::end_of(&lengths, fields);
+            answers::deliver(fields as u32, &scratch[..bytes], out)
         }
     }
 }
@@ -72,25 +63,16 @@ pub fn undo(tuple: &[u8], list: &[u8], index_base: u64, out: &mut [u8]) -> Answe
 {
     let mut scratch = [0u8; MAX_TUPLE];
     let mut lengths = [0usize; MAX_FIELDS];
-    let mut work = [0u8; MAX_TUPLE];
     let mut back = [0u8; MAX_LIST];
-    match begin::begin(tuple, list, index_base, &mut scratch, &mut lengths) {
-        Begun::Refused(refusal) => answers::refused(refusal, 0),
-        Begun::Ready(n, count, start) => {
-            match run::run(
-                list,
-                start,
-                count,
-                index_base,
-                &mut scratch,
-                &mut lengths,
-                n,
-                &mut work,
-                &mut back,
-            ) {
-                Ran::Refused(refusal, i) => answers::refused(refusal, i as u32),
-                Ran::Done(stage) => finish(&back, stage.laid, stage.bytes, out),
-            }
-        }
+    match carry_out(
+        tuple,
+        list,
+        index_base,
+        &mut scratch,
+        &mut lengths,
+        &mut back,
+    ) {
+        Ran::Refused(refusal, i) => answers::refused(refusal, i as u32),
+        Ran::Done(stage) => finish(&back, stage.laid, stage.bytes, out),
     }
 }

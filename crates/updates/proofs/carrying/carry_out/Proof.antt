@@ -1,0 +1,84 @@
+-- By what was loaded, what was judged and what was run. Assumes nothing.
+use mathlib.Core.Path.{_≡_}
+use mathlib.Core.Option.{some}
+use Rattle.tuples.specs.Tuple.{fieldsOf}
+use Rattle.engine.specs.Held.{fieldsIn, Fit}
+use Rattle.updates.proofs.Calls.{not-loaded, loaded, Begin, begin, bad-tuple, bad-list, carries}
+use borrow.Author.Needs.{needs}
+use Rattle.updates.proofs.carrying.carry_out.Statement.{statement}
+use Rattle.updates.proofs.carrying.carry_out.Tie as tie
+
+-- the tuple's fields are held
+held : (k : tie.After-known-told) → (let l = k .before .before .before in let t = l .load .last .1 in (fieldsOf (l .before .before .before .before .before .before .args .tuple .now) ≡ some (fieldsIn (t .0) (t .1 .0) (k .before .n .given .0 .0))) × Fit (t .0) (t .1 .0) (k .before .n .given .0 .0))
+held k =
+    let l = k .before .before .before in
+    let o = l .before .before .before .before .before .before in
+    loaded (o .args .tuple .now) (l .load .ensures) (k .before .n .given .1) (o .pre .0) (o .pre .1)
+
+-- and the operations of the list stand there
+begun : (k : tie.After-known-told2) → (let f = k .before .before .before .before in let l = f .before .before .before in let a = l .before .before .before .before .before .before .args in let t = l .load .last .1 in let x = k .before .count .given .0 in Begin (t .0) (t .1 .0) (a .tuple .now) (a .list .now) (a .base) (f .before .n .given .0 .0) (x .0) (x .1 .0))
+begun k =
+    let j = k .before .before .before in
+    let a = j .before .before .before .before .before .before .before .before .before .before .args in
+    let f = held (j .before) in
+    begin (a .tuple .now) (a .list .now) (a .base) (f .0) (f .1) (j .judge-list .ensures) (k .before .count .given .1)
+
+load-requires : tie.Need-load-requires
+load-requires c κs = search needs
+
+enum-known-n : tie.Need-enum-known-n
+enum-known-n c = search needs
+
+enum-told : tie.Need-enum-told
+enum-told c = search needs
+
+returns : tie.Need-returns
+returns c =
+    let l = c .before .before in
+    let a = l .before .before .before .before .before .before .args in
+    bad-tuple (a .tuple .now) (a .list .now) (a .base) (not-loaded (a .tuple .now) (l .load .ensures) (c .enum-told .given .1))
+
+judge-list-requires : tie.Need-judge-list-requires
+judge-list-requires c κs = search needs
+
+enum-known-count : tie.Need-enum-known-count
+enum-known-count c = search needs
+
+enum-told-2 : tie.Need-enum-told-2
+enum-told-2 c = search needs
+
+returns-2 : tie.Need-returns-2
+returns-2 c =
+    let j = c .before .before in
+    let a = j .before .before .before .before .before .before .before .before .before .before .args in
+    bad-list (a .tuple .now) (a .list .now) (a .base) (held (j .before) .0) (j .judge-list .ensures) (c .enum-told2 .given .1)
+
+run-requires : tie.Need-run-requires
+run-requires c κs = let q = begun (c .before .before .before .before) in (q .fit, q .few)
+
+same-length : tie.Need-same-length
+same-length c = search needs
+
+returns-3 : tie.Need-returns-3
+returns-3 c =
+    let r = c .before .before in
+    let k = r .before .before .before .before .before in
+    let a = k .before .before .before .before .before .before .before .before .before .before .before .before .before .args in
+    let t = r .run .last .1 .1 .1 .1 in
+    carries (a .tuple .now) (a .list .now) (a .base) (begun k) (r .run .result) (t .0) (t .1 .0) (t .1 .1 .1 .1 .0) (r .run .ensures)
+
+pub carry-out-spec : {M : Type 1} → statement M
+carry-out-spec =
+    tie.close
+    (tie.spec
+    load-requires
+    enum-known-n
+    enum-told
+    returns
+    judge-list-requires
+    enum-known-count
+    enum-told-2
+    returns-2
+    run-requires
+    same-length
+    returns-3)

@@ -1,0 +1,42 @@
+// What both calls do before either writes: tuple and list are judged, then the operations run.
+use crate::run::Ran;
+use loading::Loaded;
+use operations::Listed;
+use tuples::MAX_FIELDS;
+use tuples::MAX_TUPLE;
+use tuples::Refusal;
+ghost use mathlib.Core.Path.{_≡_};
+ghost use lib.ListN.{length};
+ghost use Rattle.tuples.specs.Limits.{maxFields, maxTuple};
+ghost use Rattle.updates.specs.Carrying.{Carries};
+
+pub(crate) fn carry_out(
+    tuple: &[u8],
+    list: &[u8],
+    base: u64,
+    scratch: &mut [u8; MAX_TUPLE],
+    lengths: &mut [usize; MAX_FIELDS],
+    undo: &mut [u8],
+) -> Ran
+    requires { ⌜ (length (now scratch) ≡ maxTuple) × (length (now lengths) ≡ maxFields) ⌝ }
+    ensures { λ r. ⌜ Carries r (now (scratch .exit)) (now (lengths .exit)) (now (undo .exit)) (now (tuple .entry)) (now (list .entry)) base ⌝ }
+{
+    let Loaded::Fields(n) = loading::load(tuple, scratch, lengths) else {
+        return Ran::Refused(Refusal::BadTuple, 0);
+    };
+    let Listed::Good(count, start) = operations::judge_list(list, base) else {
+        return Ran::Refused(Refusal::BadList, 0);
+    };
+    let mut work = [0u8; MAX_TUPLE];
+    crate::run::run(
+        list,
+        start,
+        count,
+        base,
+        scratch,
+        lengths,
+        n,
+        &mut work,
+        undo,
+    )
+}
