@@ -86,11 +86,7 @@ enum lak_kind {
 };
 
 /* The longest that each call writes: an `out` of this size is never refused with 18. */
-enum lak_room {
-    LAK_FRAME_ROOM = 60005,
-    LAK_TUPLE_ROOM = 16384,
-    LAK_UNDO_ROOM = 32768
-};
+enum lak_room { LAK_FRAME_ROOM = 60005, LAK_TUPLE_ROOM = 16384, LAK_UNDO_ROOM = 32768 };
 
 /* A number that a frame may leave out; absent it is all 0. */
 typedef struct {
@@ -189,7 +185,7 @@ static inline const char *lak_words(uint32_t number)
         "the sum or difference is out of range",
         "more than 64 fields or 16,384 bytes after an operation",
         "the undo list is above 64 operations or 32,768 bytes",
-        "the lent buffer is too short"
+        "the lent buffer is too short",
     };
     return number < sizeof words / sizeof words[0] ? words[number] : "no such number";
 }
