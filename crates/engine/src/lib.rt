@@ -63,7 +63,7 @@ fn decide(lengths: &[usize], n: usize, f: usize, gone: usize, more: usize, long:
     }
     let from = end_of(lengths, f);
     let gone_bytes = end_of(lengths, f + gone) - from;
-    if MAX_TUPLE - writing::array_header_length(fields as u32) < bytes - gone_bytes + long {
+    if MAX_TUPLE - headers::array_header_length(fields as u32) < bytes - gone_bytes + long {
         return Decided::Stop(Refusal::TooLarge);
     }
     Decided::Go(bytes, from, gone_bytes)

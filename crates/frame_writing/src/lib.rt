@@ -90,7 +90,7 @@ fn put_map(out: &mut [u8], at: usize, frame: Frame, bytes: &[u8], from: usize, t
         × (now (out .exit) ≡ put at (mapForm (pairs (itemsBetween from to frame (now (bytes .entry))))) (now (out .entry))) ⌝ }
 {
     let count = count_pairs(frame, bytes, from, to);
-    let a = writing::write_map_header(out, at, count);
+    let a = headers::write_map_header(out, at, count);
     put_pairs(out, a, frame, bytes, from, to)
 }
 

@@ -40,7 +40,7 @@ fn string_fits(front: &[u8], middle: &[u8], back: &[u8], room: usize) -> bool
     if MAX_TUPLE < length {
         return false;
     }
-    let all = writing::string_header_length(length as u32) + length;
+    let all = headers::string_header_length(length as u32) + length;
     (all <= MAX_TUPLE) & (all <= room)
 }
 
@@ -52,7 +52,7 @@ fn put_string(front: &[u8], middle: &[u8], back: &[u8], work: &mut [u8]) -> Alte
         return Altered::Refused(Refusal::TooLarge);
     }
     let length = front.len() + (middle.len() + back.len());
-    let at_front = writing::write_string_header(work, 0, length as u32);
+    let at_front = headers::write_string_header(work, 0, length as u32);
     let at_middle = writing::write_bytes(work, at_front, front);
     let at_back = writing::write_bytes(work, at_middle, middle);
     let end = writing::write_bytes(work, at_back, back);

@@ -1,8 +1,8 @@
 -- `string_header_length`: a form is as long as its head says. Assumes nothing.
 use native.Mathlib.Omega.{arith}
 use Rattle.writing.proofs.Lengths.{head-length, string-long}
-use Rattle.writing.proofs.string_header_length.Statement.{statement}
-use Rattle.writing.proofs.string_header_length.Tie as tie
+use Rattle.headers.proofs.string_header_length.Statement.{statement}
+use Rattle.headers.proofs.string_header_length.Tie as tie
 use borrow.Author.Needs.{needs}
 
 string-head-requires : tie.Need-string-head-requires

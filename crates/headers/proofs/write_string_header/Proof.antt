@@ -1,7 +1,7 @@
 -- `write_string_header` writes the form that its head is. Assumes nothing.
 use native.Mathlib.Omega.{arith}
-use Rattle.writing.proofs.write_string_header.Statement.{statement}
-use Rattle.writing.proofs.write_string_header.Tie as tie
+use Rattle.headers.proofs.write_string_header.Statement.{statement}
+use Rattle.headers.proofs.write_string_header.Tie as tie
 
 string-head-requires : tie.Need-string-head-requires
 string-head-requires c κs = omega arith

@@ -1,8 +1,8 @@
 -- `write_map_header` writes the form that its head is. Assumes nothing.
 use native.Mathlib.Omega.{arith}
 use Rattle.writing.specs.Forms.{mapHeader}
-use Rattle.writing.proofs.write_map_header.Statement.{statement}
-use Rattle.writing.proofs.write_map_header.Tie as tie
+use Rattle.headers.proofs.write_map_header.Statement.{statement}
+use Rattle.headers.proofs.write_map_header.Tie as tie
 
 count-head-requires : tie.Need-count-head-requires
 count-head-requires c κs = omega arith

@@ -1,8 +1,8 @@
 -- `write_array_header` writes the form that its head is. Assumes nothing.
 use native.Mathlib.Omega.{arith}
 use Rattle.writing.specs.Forms.{arrayHeader}
-use Rattle.writing.proofs.write_array_header.Statement.{statement}
-use Rattle.writing.proofs.write_array_header.Tie as tie
+use Rattle.headers.proofs.write_array_header.Statement.{statement}
+use Rattle.headers.proofs.write_array_header.Tie as tie
 
 count-head-requires : tie.Need-count-head-requires
 count-head-requires c κs = omega arith

@@ -1,9 +1,9 @@
 -- `array_header_length`: a form is as long as its head says. Assumes nothing.
 use Rattle.writing.specs.Forms.{arrayHeader}
 use native.Mathlib.Omega.{arith}
 use Rattle.writing.proofs.Lengths.{head-length, array-long}
-use Rattle.writing.proofs.array_header_length.Statement.{statement}
-use Rattle.writing.proofs.array_header_length.Tie as tie
+use Rattle.headers.proofs.array_header_length.Statement.{statement}
+use Rattle.headers.proofs.array_header_length.Tie as tie
 
 count-head-requires : tie.Need-count-head-requires
 count-head-requires c κs = omega arith

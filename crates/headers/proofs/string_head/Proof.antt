@@ -1,9 +1,9 @@
 -- `string_head`: each return is the case of the definition that the tests on the way choose. Assumes nothing.
 use native.Mathlib.Omega.{arith}
 use borrow.Author.Tests.{lt-ltb, le-ltb}
 use Rattle.writing.specs.Forms.{bigEndian, stringHeader}
-use Rattle.writing.proofs.string_head.Statement.{statement}
-use Rattle.writing.proofs.string_head.Tie as tie
+use Rattle.headers.proofs.string_head.Statement.{statement}
+use Rattle.headers.proofs.string_head.Tie as tie
 
 cast-t3 : tie.Need-cast-t3
 cast-t3 c = omega arith

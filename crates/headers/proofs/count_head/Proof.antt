@@ -1,9 +1,9 @@
 -- `count_head`: each return is the case of the definition that the tests on the way choose. Assumes nothing.
 use native.Mathlib.Omega.{arith}
 use borrow.Author.Tests.{lt-ltb, le-ltb}
 use Rattle.writing.specs.Forms.{bigEndian}
-use Rattle.writing.proofs.count_head.Statement.{statement}
-use Rattle.writing.proofs.count_head.Tie as tie
+use Rattle.headers.proofs.count_head.Statement.{statement}
+use Rattle.headers.proofs.count_head.Tie as tie
 
 cast-t5 : tie.Need-cast-t5
 cast-t5 c = omega arith
