@@ -92,7 +92,7 @@ pub fn plan(
         return plan_whole(action, f, n);
     }
     let from = engine::end_of(lengths, f);
-    let to = engine::end_of(lengths, f + 1);
+    let to = engine::end_after(lengths, f, from, f + 1);
     match altering::alter(action, list, splicing::bytes_of(scratch, from, to), work) {
         Altered::Is(k) => Planned::Alter(f, k),
         Altered::Refused(refusal) => Planned::Refuse(refusal),

@@ -8,7 +8,7 @@ use Rattle.planning.proofs.plan.Tie as tie
 
 -- the bytes that are handed on are the field's
 bytes : (b : tie.After-bytes-of) → (let a = b .before .before .before .before .before .before .before .before .before .before .before .args in b .bytes-of .result .now ≡ fieldBytes (a .scratch .now) (a .lengths .now) (b .before .before .before .before .before .field .given .0 .0))
-bytes b = b .bytes-of .ensures ∙ rw (b .before .before .end-of .ensures, b .before .end-of2 .ensures)
+bytes b = b .bytes-of .ensures ∙ rw (b .before .before .end-of .ensures, b .before .end-after .ensures)
 
 enum-known-field : tie.Need-enum-known-field
 enum-known-field c = search needs
@@ -28,11 +28,11 @@ returns-2 c = let a = c .before .before .before .before .before .before .before 
 end-of-requires : tie.Need-end-of-requires
 end-of-requires c κs = search needs
 
-add-end-of : tie.Need-add-end-of
-add-end-of c = search needs
+add-end-after : tie.Need-add-end-after
+add-end-after c = search needs
 
-end-of-requires-2 : tie.Need-end-of-requires-2
-end-of-requires-2 c κs = search needs
+end-after-requires : tie.Need-end-after-requires
+end-after-requires c κs = search needs
 
 bytes-of-requires : tie.Need-bytes-of-requires
 bytes-of-requires c κs = search needs
@@ -89,8 +89,8 @@ plan-spec =
     plan-whole-requires
     returns-2
     end-of-requires
-    add-end-of
-    end-of-requires-2
+    add-end-after
+    end-after-requires
     bytes-of-requires
     alter-requires
     enum-known-k
