@@ -76,7 +76,7 @@ fn total(z: Int, v: Int, minus: bool) -> Sum
 pub fn sum_field(field: &[u8], v: Int, minus: bool, work: &mut [u8]) -> Altered
     ensures { λ r. ⌜ Alters (some (sumEdit minus v (now (field .entry)))) r (now (work .entry)) (now (work .exit)) ⌝ }
 {
-    let Signed::Is(z, _) = parts::any_integer(field, 0) else {
+    let Signed::Is(z, _) = numbers::any_integer(field, 0) else {
         return Altered::Refused(Refusal::Unsuited);
     };
     put_sum(total(z, v, minus), work)
@@ -96,7 +96,7 @@ fn through(gate: Gate, n: u64, v: u64) -> u64
 pub fn bits_field(field: &[u8], v: u64, gate: Gate, work: &mut [u8]) -> Altered
     ensures { λ r. ⌜ Alters (some (bitsEdit gate v (now (field .entry)))) r (now (work .entry)) (now (work .exit)) ⌝ }
 {
-    let Natural::Is(n, _) = parts::at_least(field, 0, 0) else {
+    let Natural::Is(n, _) = numbers::at_least(field, 0, 0) else {
         return Altered::Refused(Refusal::Unsuited);
     };
     put_number(Int::FromZero(through(gate, n, v)), work)

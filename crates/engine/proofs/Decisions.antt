@@ -13,7 +13,7 @@ use Rattle.tuples.specs.Limits.{maxFields, maxTuple}
 use Rattle.tuples.specs.Edit.{stop}
 use Rattle.tuples.specs.declared.Refusal.the-variants.{NoField, TooLarge}
 use Rattle.engine.specs.Held.{sum, cutInto, holds, endOf, edit}
-use Rattle.engine.specs.Decision.{goneBytes, within, decided, Editing}
+use Rattle.engine.specs.Decision.{goneBytes, within, unreached, decided, Editing}
 use Rattle.engine.specs.declared.Decided.{Decided}
 use Rattle.engine.specs.declared.Decided.the-variants.{Stop, Go}
 use Rattle.engine.proofs.Cut.{sum-more}
@@ -21,6 +21,14 @@ use Rattle.engine.proofs.Ends.{Holds, held, is-held, end-here, holds-fe
 use Rattle.engine.proofs.Edits.{many, long-ones, both-within, is-within, too-large, Replacing, not-held, no-field, as-limited, edited, fields-after, bytes-after}
 
 -- ---- each way to a decision
+
+pub unreached-held : (l : List ℕ) (n : ℕ) → Holds l n → Stop NoField ≡ unreached l n
+unfolding unreached
+unreached-held l n h = rw (held l n h)
+
+pub unreached-unheld : (l : List ℕ) (n : ℕ) → holds l n ≡ false → Stop TooLarge ≡ unreached l n
+unfolding unreached
+unreached-unheld l n e = rw e
 
 -- the ends that the code has found
 pub record Spans (l : List ℕ) (n f g all from to : ℕ) : Type 0 where
@@ -46,9 +54,10 @@ module _ (l : List ℕ) (n f g more long : ℕ) where
   unfolding decided
   stop-unheld e = rw e
 
-  pub stop-no-field : Holds l n → n < f + g → Stop NoField ≡ decided l n f g more long
-  unfolding decided
-  stop-no-field h k = rw (held l n h, lt-leb _ _ k)
+  -- past the fields, only why is left to say
+  pub stop-past : n < f + g → unreached l n ≡ decided l n f g more long
+  unfolding decided unreached
+  stop-past k = rw (lt-leb _ _ k)
 
   pub stop-large : Holds l n → f + g ≤ n → maxFields < n - g + more → Stop TooLarge ≡ decided l n f g more long
   unfolding decided

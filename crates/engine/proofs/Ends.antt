@@ -1,5 +1,5 @@
 -- Where fields end, by their lengths. Assumes nothing.
-use mathlib.Core.Path.{_≡_, refl}
+use mathlib.Core.Path.{_≡_, refl, sym, _∙_}
 use mathlib.Core.Bool.{Bool, true, false, _&&_}
 use Prim.Native.Nat.{ℕ, _+_, _<_, _≤_}
 use native.Mathlib.Omega.{arith}
@@ -34,6 +34,10 @@ module _ (l : List ℕ) (n : ℕ) where
   unfolding endOf holds
   end-long h k = rw (le-leb _ _ h, lt-leb _ _ k)
 
+  pub end-lost : holds l n ≡ false → maxTuple + 1 ≡ endOf l n
+  unfolding endOf
+  end-lost e = rw e
+
   -- what an end says
   by-end : (b : Bool) → pick b (sum (take n l)) (maxTuple + 1) ≤ maxTuple → b ≡ true
   by-end true h = refl
@@ -60,6 +64,26 @@ module _ (l : List ℕ) (n : ℕ) where
   unfolding endOf
   end-unheld h = past-end (holds l n) (λ e. is-held e .short) h
 
+  -- an end that is within the limit is the sum
+  pub end-start : {e : ℕ} → e ≡ endOf l n → e ≤ maxTuple → e ≡ sum (take n l)
+  end-start q h = q ∙ sym (end-here (end-held (omega arith)))
+
 -- fewer fields are held too
 pub holds-fewer : {l : List ℕ} {n : ℕ} (f : ℕ) → f ≤ n → Holds l n → Holds l f
 holds-fewer {l} {n} f h k = let m = sum-more f n l h in record { rows = omega arith; short = omega arith }
+
+-- no fields end at the start
+pub end-none : (l : List ℕ) → 0 ≡ endOf l 0
+unfolding sum
+end-none l = end-here l 0 (record { rows = omega arith; short = omega arith })
+
+-- where the first i are not held, more are not either
+pub end-further : (l : List ℕ) (i n : ℕ) {e : ℕ} → i ≤ n → e ≡ endOf l i → maxTuple < e → maxTuple + 1 ≡ endOf l n
+end-further l i n h q k = go (holds l n) refl
+  where
+    go : (b : Bool) → holds l n ≡ b → maxTuple + 1 ≡ endOf l n
+    go true r =
+        let x = holds-fewer i h (is-held l n r) in
+        let y = end-here l i x in
+        absurd (let z = x .short in omega arith)
+    go false r = end-lost l n r

@@ -21,6 +21,10 @@ goneBytes lengths f gone = sum (take (f + gone) lengths) - sum (take f lengths)
 unfoldable pub within : ℕ → ℕ → Bool
 within n m = leb n maxFields && leb (length (arrayHeader n) + m) maxTuple
 
+-- why no edit reaches past the n fields
+unfoldable pub unreached : List ℕ → ℕ → Decided
+unreached lengths n = pick (holds lengths n) (Stop NoField) (Stop TooLarge)
+
 unfoldable pub decided : List ℕ → ℕ → ℕ → ℕ → ℕ → ℕ → Decided
 decided lengths n f gone more long =
     pick (holds lengths n)

@@ -5,9 +5,9 @@ use tuples::MAX_TUPLE;
 use tuples::Refusal;
 ghost use mathlib.Core.Path.{_≡_};
 ghost use mathlib.Core.List.{[], _∷_};
-ghost use Prim.Native.Nat.{_^_, _<_, _≤_};
+ghost use Prim.Native.Nat.{_+_, _^_, _<_, _≤_};
 ghost use Rattle.engine.specs.Held.{endOf, cutInto, edit, Left};
-ghost use Rattle.engine.specs.Decision.{decided, Editing};
+ghost use Rattle.engine.specs.Decision.{unreached, decided, Editing};
 
 // What an edit leaves: so many fields, or a refusal.
 pub enum Edited {
@@ -21,25 +21,65 @@ enum Decided {
     Go(usize, usize, usize),
 }
 
-// Where the first n fields end; past every scratch array where the table has no n, or they are too
-// long.
-pub fn end_of(lengths: &[usize], n: usize) -> usize
+// Where the first n fields end, by where the first i of them do; past every scratch array where the
+// table has no n, or they are too long.
+fn end_after(lengths: &[usize], i: usize, start: usize, n: usize) -> usize
+    requires { ⌜ (i ≤ n) × (start ≡ endOf (now lengths) i) ⌝ }
     ensures { λ r. ⌜ r ≡ endOf (now (lengths .entry)) n ⌝ }
 {
     if lengths.len() < n {
         return MAX_TUPLE + 1;
     }
-    let mut end: usize = 0;
-    let mut i: usize = 0;
-    while i < n {
-        let k = lengths[i];
+    if MAX_TUPLE < start {
+        return MAX_TUPLE + 1;
+    }
+    let mut end = start;
+    let mut j = i;
+    while j < n {
+        let k = lengths[j];
         if MAX_TUPLE - end < k {
             return MAX_TUPLE + 1;
         }
         end += k;
-        i += 1;
+        j += 1;
     }
     end
+}
+
+pub fn end_of(lengths: &[usize], n: usize) -> usize
+    ensures { λ r. ⌜ r ≡ endOf (now (lengths .entry)) n ⌝ }
+{
+    end_after(lengths, 0, 0, n)
+}
+
+// Where a field starts and ends.
+pub struct Ends {
+    pub from: usize,
+    pub to: usize,
+}
+
+pub fn ends_of(lengths: &[usize], f: usize) -> Ends
+    ensures { λ r. ⌜ (r .from ≡ endOf (now (lengths .entry)) f) × (r .to ≡ endOf (now (lengths .entry)) (f + 1)) ⌝ }
+{
+    let from = end_of(lengths, f);
+    if lengths.len() <= f {
+        return Ends {
+            from,
+            to: MAX_TUPLE + 1,
+        };
+    }
+    let to = end_after(lengths, f, from, f + 1);
+    Ends { from, to }
+}
+
+// Why no edit reaches past the n fields: there are not so many; or the table does not hold them.
+fn stopped(lengths: &[usize], n: usize) -> Decided
+    ensures { λ r. ⌜ r ≡ unreached (now (lengths .entry)) n ⌝ }
+{
+    if MAX_TUPLE < end_of(lengths, n) {
+        return Decided::Stop(Refusal::TooLarge);
+    }
+    Decided::Stop(Refusal::NoField)
 }
 
 // Whether `more` fields of `long` bytes together may come for `gone` of the n from f on.
@@ -47,22 +87,23 @@ fn decide(lengths: &[usize], n: usize, f: usize, gone: usize, more: usize, long:
     requires { ⌜ (more ≤ 1) × (long < 2 ^ 63) ⌝ }
     ensures { λ r. ⌜ r ≡ decided (now (lengths .entry)) n f gone more long ⌝ }
 {
-    let bytes = end_of(lengths, n);
-    if MAX_TUPLE < bytes {
-        return Decided::Stop(Refusal::TooLarge);
-    }
     if n < f {
-        return Decided::Stop(Refusal::NoField);
+        return stopped(lengths, n);
     }
     if n - f < gone {
-        return Decided::Stop(Refusal::NoField);
+        return stopped(lengths, n);
+    }
+    let from = end_of(lengths, f);
+    let to = end_after(lengths, f, from, f + gone);
+    let bytes = end_after(lengths, f + gone, to, n);
+    if MAX_TUPLE < bytes {
+        return Decided::Stop(Refusal::TooLarge);
     }
     let fields = n - gone + more;
     if MAX_FIELDS < fields {
         return Decided::Stop(Refusal::TooLarge);
     }
-    let from = end_of(lengths, f);
-    let gone_bytes = end_of(lengths, f + gone) - from;
+    let gone_bytes = to - from;
     if MAX_TUPLE - headers::array_header_length(fields as u32) < bytes - gone_bytes + long {
         return Decided::Stop(Refusal::TooLarge);
     }

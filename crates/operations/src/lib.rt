@@ -49,23 +49,23 @@ fn three_at(list: &[u8], at: usize, mark: u64) -> Action
     ensures { λ r. ⌜ ActionAt (now (list .entry)) r (three mark (drop at (now (list .entry)))) ⌝ }
 {
     match mark {
-        0x2b => match parts::any_integer(list, at) {
+        0x2b => match numbers::any_integer(list, at) {
             Signed::Is(z, end) => Action::Plus(z, end),
             Signed::Bad => Action::Bad,
         },
-        0x2d => match parts::any_integer(list, at) {
+        0x2d => match numbers::any_integer(list, at) {
             Signed::Is(z, end) => Action::Minus(z, end),
             Signed::Bad => Action::Bad,
         },
-        0x26 => match parts::at_least(list, at, 0) {
+        0x26 => match numbers::at_least(list, at, 0) {
             Natural::Is(n, end) => Action::And(n, end),
             Natural::Bad => Action::Bad,
         },
-        0x5e => match parts::at_least(list, at, 0) {
+        0x5e => match numbers::at_least(list, at, 0) {
             Natural::Is(n, end) => Action::Xor(n, end),
             Natural::Bad => Action::Bad,
         },
-        0x7c => match parts::at_least(list, at, 0) {
+        0x7c => match numbers::at_least(list, at, 0) {
             Natural::Is(n, end) => Action::Or(n, end),
             Natural::Bad => Action::Bad,
         },
@@ -77,7 +77,7 @@ fn three_at(list: &[u8], at: usize, mark: u64) -> Action
             Span::Is(start, end) => Action::Insert(start, end),
             Span::Bad => Action::Bad,
         },
-        0x23 => match parts::at_least(list, at, 1) {
+        0x23 => match numbers::at_least(list, at, 1) {
             Natural::Is(n, end) => Action::Remove(n, end),
             Natural::Bad => Action::Bad,
         },
@@ -92,10 +92,10 @@ fn five_at(list: &[u8], at: usize, mark: u64, base: u64) -> Action
     if mark != 0x3a {
         return Action::Bad;
     }
-    let Natural::Is(position, at_count) = parts::position_at(list, at, base) else {
+    let Natural::Is(position, at_count) = numbers::position_at(list, at, base) else {
         return Action::Bad;
     };
-    let Natural::Is(count, at_argument) = parts::at_least(list, at_count, 0) else {
+    let Natural::Is(count, at_argument) = numbers::at_least(list, at_count, 0) else {
         return Action::Bad;
     };
     let Span::Is(start, end) = parts::string_at(list, at_argument) else {
@@ -127,7 +127,7 @@ pub fn opening_at(list: &[u8], at: usize) -> Opened
     let Natural::Is(mark, at_number) = parts::mark_at(list, at_mark) else {
         return Opened::Bad;
     };
-    let Signed::Is(number, after) = parts::any_integer(list, at_number) else {
+    let Signed::Is(number, after) = numbers::any_integer(list, at_number) else {
         return Opened::Bad;
     };
     Opened::Is(count, mark, number, after)

@@ -1,13 +1,12 @@
-// The parts of which an operation is read, each at a place of the bytes.
+// The parts of which an operation is read, each at a place of the bytes; its numbers are read above.
 use scalars::Header;
 use scalars::Int;
-use scalars::Integer;
 use scalars::Opening;
 use values::Read;
 ghost use mathlib.Core.Path.{_≡_};
 ghost use lib.ListN.{drop};
-ghost use Rattle.tuples.specs.Decoding.{less, anyInteger, atLeast, position, anyValue, string, count, mark};
-ghost use Rattle.parts.specs.Part.{fieldBy, SignedAt, NaturalAt, SpanAt};
+ghost use Rattle.tuples.specs.Decoding.{anyValue, string, count, mark};
+ghost use Rattle.parts.specs.Part.{NaturalAt, SpanAt};
 
 // A field by its number from 0, or a number below 0.
 pub enum Field {
@@ -31,62 +30,6 @@ pub enum Natural {
 pub enum Span {
     Is(usize, usize),
     Bad,
-}
-
-// The field number without the index base.
-pub fn field_of(number: Int, base: u64) -> Field
-    ensures { λ r. ⌜ r ≡ fieldBy (less base number) ⌝ }
-{
-    match number {
-        Int::FromZero(n) => {
-            if base <= n {
-                Field::At(n - base)
-            } else {
-                Field::Below
-            }
-        }
-        Int::BelowZero(_) => Field::Below,
-    }
-}
-
-// The integer at `at`.
-pub fn any_integer(s: &[u8], at: usize) -> Signed
-    ensures { λ r. ⌜ SignedAt (now (s .entry)) r (anyInteger (drop at (now (s .entry)))) ⌝ }
-{
-    match scalars::integer_at(s, at) {
-        Integer::Is(z, end) => Signed::Is(z, end),
-        Integer::Cut => Signed::Bad,
-        Integer::Other => Signed::Bad,
-    }
-}
-
-// The integer at `at`, where it is `low` at least.
-pub fn at_least(s: &[u8], at: usize, low: u64) -> Natural
-    ensures { λ r. ⌜ NaturalAt (now (s .entry)) r (atLeast low (drop at (now (s .entry)))) ⌝ }
-{
-    let Signed::Is(z, end) = any_integer(s, at) else {
-        return Natural::Bad;
-    };
-    let Int::FromZero(n) = z else {
-        return Natural::Bad;
-    };
-    if n < low {
-        return Natural::Bad;
-    }
-    Natural::Is(n, end)
-}
-
-// The integer at `at` less the index base, where that is 0 at least.
-pub fn position_at(s: &[u8], at: usize, base: u64) -> Natural
-    ensures { λ r. ⌜ NaturalAt (now (s .entry)) r (position base (drop at (now (s .entry)))) ⌝ }
-{
-    let Signed::Is(z, end) = any_integer(s, at) else {
-        return Natural::Bad;
-    };
-    let Field::At(p) = field_of(z, base) else {
-        return Natural::Bad;
-    };
-    Natural::Is(p, end)
 }
 
 // The value at `at`, as deep as a field may be.

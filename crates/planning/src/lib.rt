@@ -91,9 +91,13 @@ pub fn plan(
     if n <= f {
         return plan_whole(action, f, n);
     }
-    let from = engine::end_of(lengths, f);
-    let to = engine::end_of(lengths, f + 1);
-    match altering::alter(action, list, splicing::bytes_of(scratch, from, to), work) {
+    let ends = engine::ends_of(lengths, f);
+    match altering::alter(
+        action,
+        list,
+        splicing::bytes_of(scratch, ends.from, ends.to),
+        work,
+    ) {
         Altered::Is(k) => Planned::Alter(f, k),
         Altered::Refused(refusal) => Planned::Refuse(refusal),
         Altered::Other => plan_whole(action, f, n),

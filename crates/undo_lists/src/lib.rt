@@ -32,7 +32,8 @@ fn lay_operation(undo: &mut [u8], bytes: usize, mark: u8, f: u64, argument: &[u8
     bytes + long
 }
 
-// An operation with field `at` as its argument.
+// An operation with field `at` as its argument. Where not a byte has room, as in a call that lends
+// none, the field is not looked for.
 fn lay_field(
     undo: &mut [u8],
     bytes: usize,
@@ -46,14 +47,16 @@ fn lay_field(
     ensures { λ r. ⌜ (r ≡ counted (length (now (undo .entry))) (operationBytes mark f (fieldBytes (now (scratch .entry)) (now (lengths .entry)) at)) bytes)
         × (now (undo .exit) ≡ laid (operationBytes mark f (fieldBytes (now (scratch .entry)) (now (lengths .entry)) at)) bytes (now (undo .entry))) ⌝ }
 {
-    let from = engine::end_of(lengths, at);
-    let to = engine::end_of(lengths, at + 1);
+    if undo.len() <= bytes {
+        return undo.len() + 1;
+    }
+    let ends = engine::ends_of(lengths, at);
     lay_operation(
         undo,
         bytes,
         mark,
         f as u64,
-        splicing::bytes_of(scratch, from, to),
+        splicing::bytes_of(scratch, ends.from, ends.to),
     )
 }
 

@@ -82,7 +82,7 @@ fn prepare(
         };
     };
     let plan = planning::plan(
-        parts::field_of(number, base),
+        numbers::field_of(number, base),
         action,
         list,
         scratch,

@@ -1,13 +1,14 @@
 -- A value that is whole under a depth limit is the same under a larger one. Assumes nothing.
 use mathlib.Core.Path.{_≡_, refl, sym, subst, ap, _∙_}
 use mathlib.Core.List.{List, [], _∷_}
-use Prim.Native.Nat.{ℕ, zero, suc, _+_, _*_}
+use Prim.Native.Nat.{ℕ, zero, suc, _+_, _*_, _<_}
+use native.Mathlib.Omega.{arith}
 use borrow.Author.Tests.{le-leb}
 use lib.ListN.{length, take, drop}
 use Rattle.first_bytes.specs.Bytes.{Bytes}
 use Rattle.first_bytes.specs.FirstByte.{formOf}
 use Rattle.values.specs.Number.{number}
-use Rattle.values.specs.Value.{shift, sized, andThen, items, byForm, one, tooDeep, container, value}
+use Rattle.values.specs.Value.{shift, endOr0, sized, andThen, items, byForm, one, tooDeep, container, value}
 use Rattle.first_bytes.specs.declared.Kind.{Kind}
 use Rattle.first_bytes.specs.declared.Form.{Form}
 use Rattle.first_bytes.specs.declared.Form.the-variants.{Unused, Scalar, Array, Map}
@@ -61,3 +62,15 @@ value-more (suc d) =
     (λ w f p. shift-under (sized w (λ n t. items (value d) (n * p + f) t)) (sized w (λ n t. items (value (suc d)) (n * p + f) t))
     (sized-under w (λ n t. items (value d) (n * p + f) t) (λ n t. items (value (suc d)) (n * p + f) t)
     (λ x. items-under (value d) (value (suc d)) (value-more d) (x * p + f))))
+
+-- a scalar that is whole is whole under every limit
+pub value-from-0 : (d : ℕ) → Under (value 0) (value d)
+value-from-0 zero = λ s n e. e
+value-from-0 (suc d) = λ s n e. value-more d s n (value-from-0 d s n e)
+
+pub scalar-value : (s : Bytes) (at d e : ℕ) → 0 < e → e ≡ endOr0 (shift at (value 0 (drop at s))) → Whole e ≡ shift at (value d (drop at s))
+scalar-value s at d e h q = go (value 0 (drop at s)) refl q
+  where
+    go : (r : Read) → value 0 (drop at s) ≡ r → e ≡ endOr0 (shift at r) → Whole e ≡ shift at (value d (drop at s))
+    go (Whole k) p q = rw (value-from-0 d (drop at s) k p) (ap Whole q)
+    go (Broken k) p q = absurd (omega arith)

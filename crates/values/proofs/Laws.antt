@@ -13,11 +13,13 @@ use lib.Seq.{drop-cons, drop-drop}
 use Rattle.first_bytes.specs.Bytes.{Bytes, pick}
 use Rattle.first_bytes.specs.FirstByte.{formOf}
 use Rattle.first_bytes.specs.declared.Kind.{Kind}
+use Rattle.first_bytes.specs.declared.Kind.the-variants.{Unsigned, Signed, String}
 use Rattle.first_bytes.specs.declared.Form.{Form}
 use Rattle.first_bytes.specs.declared.Form.the-variants.{Unused, Scalar, Array, Map}
 use Rattle.first_bytes.proofs.Range.{both, both-left, both-right, all-at}
+use Rattle.first_bytes.proofs.Forms.{agree}
 use Rattle.values.specs.Number.{number, numberAt}
-use Rattle.values.specs.Value.{shift, payload, sized, andThen, items, byForm, one, tooDeep, container, value, inside}
+use Rattle.values.specs.Value.{shift, endOr0, payload, sized, andThen, items, byForm, one, tooDeep, container, value, inside}
 use Rattle.values.specs.declared.Number.{Number}
 use Rattle.values.specs.declared.Number.the-variants.{Is, Missing}
 use Rattle.values.specs.declared.Read.{Read}
@@ -156,6 +158,67 @@ pub value-scalar : (s : Bytes) (at d : ℕ) (k : Kind) (w f : ℕ) → at < leng
     → shift at (value d (drop at s)) ≡ shift (at + 1) (sized w (λ n t. payload (n + f) t) (drop (at + 1) s))
 unfolding byForm
 value-scalar s at d k w f h e = rw (value-at s at d (Scalar k w f) h e, shift-shift)
+
+-- a scalar of one byte
+pub value-byte : (s : Bytes) (at d : ℕ) (k : Kind) → at < length s → Scalar k 0 0 ≡ formOf (getD s at 0)
+    → Whole (at + 1) ≡ shift at (value d (drop at s))
+unfolding number
+value-byte s at d k h e =
+    let q : at + 1 ≡ at + 1 + 0 + (0 + 0) = omega arith in
+    ap Whole q ∙ payload-whole s (at + 1 + 0) (0 + 0) (omega arith)
+    ∙ sym (sized-is s (at + 1) 0 0 (λ n t. payload (n + 0) t) (omega arith) refl)
+    ∙ sym (value-scalar s at d k 0 0 h e)
+
+-- by its first byte, which is below 0x80 or from 0xe0 on
+pub value-small : (s : Bytes) (at d : ℕ) → at < length s → getD s at 0 < 0x80 → Whole (at + 1) ≡ shift at (value d (drop at s))
+unfolding formOf
+value-small s at d h k = value-byte s at d Unsigned h (agree (λ b. Scalar Unsigned 0 0) formOf 0x00 128 tt (getD s at 0) (omega arith) (omega arith))
+
+pub value-high : (s : Bytes) (at d : ℕ) → at < length s → 0xe0 ≤ getD s at 0 → getD s at 0 < 256 → Whole (at + 1) ≡ shift at (value d (drop at s))
+unfolding formOf
+value-high s at d h k l = value-byte s at d Signed h (agree (λ b. Scalar Signed 0 0) formOf 0xe0 32 tt (getD s at 0) (omega arith) (omega arith))
+
+-- a short string, by its first byte
+pub value-string : (s : Bytes) (at d : ℕ) → at < length s → 0xa0 ≤ getD s at 0 → getD s at 0 < 0xc0
+    → shift at (value d (drop at s)) ≡ shift (at + 1) (sized 0 (λ n t. payload (n + (getD s at 0 - 0xa0)) t) (drop (at + 1) s))
+unfolding formOf
+value-string s at d h k l =
+    value-scalar s at d String 0 (getD s at 0 - 0xa0) h
+    (agree (λ b. Scalar String 0 (b - 0xa0)) formOf 0xa0 32 tt (getD s at 0) (omega arith) (omega arith))
+
+-- what is no scalar, by its first byte, is none that is whole
+bare : Form → Bool
+bare Unused = true
+bare (Scalar k w f) = false
+bare (Array w f) = true
+bare (Map w f) = true
+
+bare-ended : (f : Form) (at : ℕ) (s : Bytes) → T (bare f) → 0 ≡ endOr0 (shift at (byForm (inside 0) f s))
+unfolding byForm inside tooDeep bare
+bare-ended Unused at s t = refl
+bare-ended (Scalar k w f) at s t = absurd t
+bare-ended (Array w f) at s t = refl
+bare-ended (Map w f) at s t = refl
+
+no-scalar : (s : Bytes) (at : ℕ) (f : Form) → at < length s → f ≡ formOf (getD s at 0) → T (bare f) → 0 ≡ endOr0 (shift at (value 0 (drop at s)))
+no-scalar s at f h e t = rw (value-at s at 0 f h e) (bare-ended f at (drop (at + 1) s) t)
+
+-- by its first byte, which is a map's or an array's
+pub no-scalar-by-byte : (s : Bytes) (at : ℕ) → at < length s → 0x80 ≤ getD s at 0 → getD s at 0 < 0xa0 → 0 ≡ endOr0 (shift at (value 0 (drop at s)))
+unfolding formOf bare
+no-scalar-by-byte s at h k l = no-scalar s at (formOf (getD s at 0)) h refl (all-at (λ b. bare (formOf b)) 0x80 32 tt (getD s at 0) (omega arith) (omega arith))
+
+pub no-scalar-unused : (s : Bytes) (at : ℕ) → at < length s → Unused ≡ formOf (getD s at 0) → 0 ≡ endOr0 (shift at (value 0 (drop at s)))
+unfolding bare
+no-scalar-unused s at h e = no-scalar s at Unused h e tt
+
+pub no-scalar-array : (s : Bytes) (at w f : ℕ) → at < length s → Array w f ≡ formOf (getD s at 0) → 0 ≡ endOr0 (shift at (value 0 (drop at s)))
+unfolding bare
+no-scalar-array s at w f h e = no-scalar s at (Array w f) h e tt
+
+pub no-scalar-map : (s : Bytes) (at w f : ℕ) → at < length s → Map w f ≡ formOf (getD s at 0) → 0 ≡ endOr0 (shift at (value 0 (drop at s)))
+unfolding bare
+no-scalar-map s at w f h e = no-scalar s at (Map w f) h e tt
 
 pub inside-deep : (s : Bytes) (at w f p : ℕ) → Broken at ≡ shift at (inside 0 w f p s)
 unfolding inside tooDeep

@@ -4,7 +4,7 @@ ghost use mathlib.Core.Path.{_≡_};
 ghost use Prim.Native.Nat.{_+_, _*_, _^_, _<_, _≤_};
 ghost use lib.ListN.{length, take, drop};
 ghost use Rattle.values.specs.Number.{number, numberAt, Below};
-ghost use Rattle.values.specs.Value.{shift, payload, sized, inside, value};
+ghost use Rattle.values.specs.Value.{shift, endOr0, payload, sized, inside, value};
 
 // Whole, with the place of the first byte after it; or broken, with the place of the first
 // spoiling byte: an unused first byte, a container one too deep, or the end of the bytes.
@@ -48,6 +48,15 @@ pub fn number_at(s: &[u8], at: usize, width: usize) -> Number
     Number::Is(n)
 }
 
+fn end_or_0(read: Read) -> usize
+    ensures { λ r. ⌜ r ≡ endOr0 read ⌝ }
+{
+    match read {
+        Read::Whole(end) => end,
+        Read::Broken(_) => 0,
+    }
+}
+
 // A scalar's length of `width` bytes from `at`, then that many bytes and `fixed` more.
 fn read_bytes(s: &[u8], at: usize, width: usize, fixed: usize) -> Read
     requires { ⌜ (at ≤ length (now s)) × ((width ≤ 4) × (fixed ≤ 31)) ⌝ }
@@ -64,8 +73,37 @@ fn read_bytes(s: &[u8], at: usize, width: usize, fixed: usize) -> Read
     Read::Whole(from + due)
 }
 
-// One value at `at`, of depth at most `depth`.
-pub fn read_value(s: &[u8], at: usize, depth: usize) -> Read
+// The place after the scalar at `at`; 0 where it is not whole, or none stands there. Integers of one
+// byte, short containers and short strings are the most frequent, and are told without the form.
+fn scalar_end(s: &[u8], at: usize) -> usize
+    ensures { λ r. ⌜ r ≡ endOr0 (shift at (value 0 (drop at (now (s .entry))))) ⌝ }
+{
+    if s.len() <= at {
+        return 0;
+    }
+    let b = s[at];
+    if b < 0x80 {
+        return at + 1;
+    }
+    if 0xe0 <= b {
+        return at + 1;
+    }
+    if b < 0xa0 {
+        return 0;
+    }
+    if b < 0xc0 {
+        return end_or_0(read_bytes(s, at + 1, 0, (b - 0xa0) as usize));
+    }
+    match first_bytes::form_of(b) {
+        Form::Unused => 0,
+        Form::Scalar(_, width, fixed) => end_or_0(read_bytes(s, at + 1, width, fixed)),
+        Form::Array(_, _) => 0,
+        Form::Map(_, _) => 0,
+    }
+}
+
+// One value at `at`, of depth at most `depth`, whatever it is.
+fn read_one(s: &[u8], at: usize, depth: usize) -> Read
     ensures { λ r. ⌜ r ≡ shift at (value depth (drop at (now (s .entry)))) ⌝ }
 {
     if s.len() <= at {
@@ -80,7 +118,7 @@ pub fn read_value(s: &[u8], at: usize, depth: usize) -> Read
 }
 
 // The values of the container whose first byte stands at `at`: `per` for each that its `width`
-// count bytes say, and `fixed` more.
+// count bytes say, and `fixed` more. Scalars are passed over here, without going down.
 fn read_items(s: &[u8], at: usize, width: usize, fixed: usize, per: usize, depth: usize) -> Read
     requires { ⌜ (at < length (now s)) × ((width ≤ 4) × ((fixed ≤ 31) × (per ≤ 2))) ⌝ }
     ensures { λ r. ⌜ r ≡ shift at (inside depth width fixed per (drop (at + 1) (now (s .entry)))) ⌝ }
@@ -94,15 +132,31 @@ fn read_items(s: &[u8], at: usize, width: usize, fixed: usize, per: usize, depth
     let mut end = at + 1 + width;
     let mut left = n as usize * per + fixed;
     while 0 < left {
-        match read_value(s, end, depth - 1) {
-            Read::Whole(next) => {
-                end = next;
-            }
-            Read::Broken(place) => {
-                return Read::Broken(place);
+        let scalar = scalar_end(s, end);
+        if 0 < scalar {
+            end = scalar;
+        } else {
+            match read_one(s, end, depth - 1) {
+                Read::Whole(next) => {
+                    end = next;
+                }
+                Read::Broken(place) => {
+                    return Read::Broken(place);
+                }
             }
         }
         left -= 1;
     }
     Read::Whole(end)
+}
+
+// One value at `at`, of depth at most `depth`.
+pub fn read_value(s: &[u8], at: usize, depth: usize) -> Read
+    ensures { λ r. ⌜ r ≡ shift at (value depth (drop at (now (s .entry)))) ⌝ }
+{
+    let scalar = scalar_end(s, at);
+    if 0 < scalar {
+        return Read::Whole(scalar);
+    }
+    read_one(s, at, depth)
 }

@@ -7,8 +7,8 @@ use Rattle.planning.proofs.plan.Statement.{statement}
 use Rattle.planning.proofs.plan.Tie as tie
 
 -- the bytes that are handed on are the field's
-bytes : (b : tie.After-bytes-of) → (let a = b .before .before .before .before .before .before .before .before .before .before .before .args in b .bytes-of .result .now ≡ fieldBytes (a .scratch .now) (a .lengths .now) (b .before .before .before .before .before .field .given .0 .0))
-bytes b = b .bytes-of .ensures ∙ rw (b .before .before .end-of .ensures, b .before .end-of2 .ensures)
+bytes : (b : tie.After-bytes-of) → (let a = b .before .before .before .before .before .before .before .before .before .before .args in b .bytes-of .result .now ≡ fieldBytes (a .scratch .now) (a .lengths .now) (b .before .before .before .before .field .given .0 .0))
+bytes b = b .bytes-of .ensures ∙ rw (b .before .ends-of .ensures .0, b .before .ends-of .ensures .1)
 
 enum-known-field : tie.Need-enum-known-field
 enum-known-field c = search needs
@@ -25,14 +25,8 @@ plan-whole-requires c κs = search needs
 returns-2 : tie.Need-returns-2
 returns-2 c = let a = c .before .before .before .before .before .before .before .before .before .args in past-fields (a .action) (a .list .now) (a .scratch .now) (a .lengths .now) (a .n) (a .work .now) (c .before .before .before .field .given .1) (c .before .if1 .taken) (c .plan-whole .ensures)
 
-end-of-requires : tie.Need-end-of-requires
-end-of-requires c κs = search needs
-
-add-end-of : tie.Need-add-end-of
-add-end-of c = search needs
-
-end-of-requires-2 : tie.Need-end-of-requires-2
-end-of-requires-2 c κs = search needs
+ends-of-requires : tie.Need-ends-of-requires
+ends-of-requires c κs = search needs
 
 bytes-of-requires : tie.Need-bytes-of-requires
 bytes-of-requires c κs = search needs
@@ -58,8 +52,8 @@ same-length c = search needs
 returns-3 : tie.Need-returns-3
 returns-3 c =
     let b = c .before .before .before .before .before .before .before in
-    let a = b .before .before .before .before .before .before .before .before .before .before .before .args in
-    field-altered (a .action) (a .list .now) (a .scratch .now) (a .lengths .now) (a .n) (a .work .now) (b .before .before .before .before .before .field .given .1) (b .before .before .before .if1 .left) (bytes b) (c .before .before .before .before .before .alter .ensures) (c .before .k .given .1)
+    let a = b .before .before .before .before .before .before .before .before .before .before .args in
+    field-altered (a .action) (a .list .now) (a .scratch .now) (a .lengths .now) (a .n) (a .work .now) (b .before .before .before .before .field .given .1) (b .before .before .if1 .left) (bytes b) (c .before .before .before .before .before .alter .ensures) (c .before .k .given .1)
 
 same-length-2 : tie.Need-same-length-2
 same-length-2 c = search needs
@@ -67,8 +61,8 @@ same-length-2 c = search needs
 returns-4 : tie.Need-returns-4
 returns-4 c =
     let b = c .before .before .before .before .before .before .before in
-    let a = b .before .before .before .before .before .before .before .before .before .before .before .args in
-    field-refused (a .action) (a .list .now) (a .scratch .now) (a .lengths .now) (a .n) (a .work .now) (b .before .before .before .before .before .field .given .1) (b .before .before .before .if1 .left) (bytes b) (c .before .before .before .before .before .alter .ensures) (c .before .refusal .given .1)
+    let a = b .before .before .before .before .before .before .before .before .before .before .args in
+    field-refused (a .action) (a .list .now) (a .scratch .now) (a .lengths .now) (a .n) (a .work .now) (b .before .before .before .before .field .given .1) (b .before .before .if1 .left) (bytes b) (c .before .before .before .before .before .alter .ensures) (c .before .refusal .given .1)
 
 same-length-3 : tie.Need-same-length-3
 same-length-3 c = search needs
@@ -76,8 +70,8 @@ same-length-3 c = search needs
 returns-5 : tie.Need-returns-5
 returns-5 c =
     let b = c .before .before .before .before .before .before .before in
-    let a = b .before .before .before .before .before .before .before .before .before .before .before .args in
-    field-kept (a .action) (a .list .now) (a .scratch .now) (a .lengths .now) (a .n) (a .work .now) (b .before .before .before .before .before .field .given .1) (b .before .before .before .if1 .left) (bytes b) (c .before .before .before .before .before .alter .ensures) (c .before .enum-told2 .given .1) (c .plan-whole2 .ensures)
+    let a = b .before .before .before .before .before .before .before .before .before .before .args in
+    field-kept (a .action) (a .list .now) (a .scratch .now) (a .lengths .now) (a .n) (a .work .now) (b .before .before .before .before .field .given .1) (b .before .before .if1 .left) (bytes b) (c .before .before .before .before .before .alter .ensures) (c .before .enum-told2 .given .1) (c .plan-whole2 .ensures)
 
 pub plan-spec : {M : Type 1} → statement M
 plan-spec =
@@ -88,9 +82,7 @@ plan-spec =
     returns
     plan-whole-requires
     returns-2
-    end-of-requires
-    add-end-of
-    end-of-requires-2
+    ends-of-requires
     bytes-of-requires
     alter-requires
     enum-known-k

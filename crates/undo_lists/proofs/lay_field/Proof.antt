@@ -1,18 +1,26 @@
 -- The argument is the field, by its two ends. Assumes nothing.
 use mathlib.Core.Path.{_∙_}
+use native.Mathlib.Omega.{arith}
+use Rattle.tuples.specs.Edit.{operationBytes}
+use Rattle.planning.specs.Plan.{fieldBytes}
 use Rattle.undo_lists.proofs.Inverses.{lays-field}
+use Rattle.undo_lists.proofs.Piles.{operation-length, no-room}
 use borrow.Author.Needs.{needs}
 use Rattle.undo_lists.proofs.lay_field.Statement.{statement}
 use Rattle.undo_lists.proofs.lay_field.Tie as tie
 
-end-of-requires : tie.Need-end-of-requires
-end-of-requires c κs = search needs
+add-result : tie.Need-add-result
+add-result c = search needs
 
-add-end-of : tie.Need-add-end-of
-add-end-of c = search needs
+returns : tie.Need-returns
+returns c =
+    let a = c .before .before .before .before .args in
+    let x = fieldBytes (a .scratch .now) (a .lengths .now) (a .at) in
+    let e = operation-length (a .mark) (a .f) x in
+    no-room (operationBytes (a .mark) (a .f) x) (a .bytes) (a .undo .now) (omega arith)
 
-end-of-requires-2 : tie.Need-end-of-requires-2
-end-of-requires-2 c κs = search needs
+ends-of-requires : tie.Need-ends-of-requires
+ends-of-requires c κs = search needs
 
 bytes-of-requires : tie.Need-bytes-of-requires
 bytes-of-requires c κs = search needs
@@ -23,22 +31,22 @@ lay-operation-requires c κs = search needs
 same-length : tie.Need-same-length
 same-length c = search needs
 
-returns : tie.Need-returns
-returns c =
+returns-2 : tie.Need-returns-2
+returns-2 c =
     let l = c .before .before in
     let p = l .before in
     let e = p .before .before in
     let a = c .before .before .before .before .before .before .before .before .before .before .args in
-    lays-field (a .mark) (a .f) (a .bytes) (a .undo .now) (p .bytes-of .ensures ∙ rw (e .before .end-of .ensures, e .end-of2 .ensures)) (l .lay-operation .ensures)
+    lays-field (a .mark) (a .f) (a .bytes) (a .undo .now) (p .bytes-of .ensures ∙ rw (e .ends-of .ensures .0, e .ends-of .ensures .1)) (l .lay-operation .ensures)
 
 pub lay-field-spec : {M : Type 1} → statement M
 lay-field-spec =
     tie.close
     (tie.spec
-    end-of-requires
-    add-end-of
-    end-of-requires-2
+    add-result
+    returns
+    ends-of-requires
     bytes-of-requires
     lay-operation-requires
     same-length
-    returns)
+    returns-2)

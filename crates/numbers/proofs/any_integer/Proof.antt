@@ -1,9 +1,9 @@
 -- What was read is what the definition gets. Assumes nothing.
 use mathlib.Core.Path.{sym, _∙_}
 use Rattle.parts.proofs.Reading.{integer-at}
 use borrow.Author.Needs.{needs}
-use Rattle.parts.proofs.any_integer.Statement.{statement}
-use Rattle.parts.proofs.any_integer.Tie as tie
+use Rattle.numbers.proofs.any_integer.Statement.{statement}
+use Rattle.numbers.proofs.any_integer.Tie as tie
 
 integer-at-requires : tie.Need-integer-at-requires
 integer-at-requires c κs = search needs

@@ -1,9 +1,9 @@
 -- An integer, held to its bound. Assumes nothing.
 use lib.ListN.{drop}
 use Rattle.parts.proofs.Steps as Steps
 use borrow.Author.Needs.{needs}
-use Rattle.parts.proofs.at_least.Statement.{statement}
-use Rattle.parts.proofs.at_least.Tie as tie
+use Rattle.numbers.proofs.at_least.Statement.{statement}
+use Rattle.numbers.proofs.at_least.Tie as tie
 
 any-integer-requires : tie.Need-any-integer-requires
 any-integer-requires c κs = search needs

@@ -1,10 +1,11 @@
--- `read_value` and `read_items` are one value and a container's values. The measure is the depth that is left, twice; one more for `read_value`.
+-- `read_one` and `read_items` are one value and a container's values. The measure is the depth that is left, twice; one more for `read_one`.
 -- The loop's invariant: what is still to be read from here is what was to be read from the container's first byte. Assumes nothing.
 use borrow.Author.Needs.{needs}
 use native.Mathlib.Omega.{arith}
 use native.Mathlib.Nat.{add-zero}
 use Prim.Native.Nat.{ℕ, suc, _+_, _-_, _*_, _^_, _<_, _≤_}
 use mathlib.Core.Path.{_≡_, sym, ap, _∙_}
+use mathlib.Core.Logic.{⊎-elim}
 use lib.ListN.{length, take, drop, getD}
 use borrow.Fn.Kinds.{In}
 use borrow.Fn.PlainCycle.{Measures, is, falls, and}
@@ -15,23 +16,25 @@ use Rattle.first_bytes.specs.declared.Form.the-variants.{Array, Map}
 use Rattle.values.specs.declared.Read.the-variants.{Whole}
 use Rattle.values.proofs.Big as Big
 use Rattle.values.proofs.Laws as Laws
+use Rattle.values.proofs.Depth.{scalar-value}
 use Rattle.first_bytes.proofs.form_of.Reads as form-of
 use Rattle.values.proofs.number_at.Reads as number-at
 use Rattle.values.proofs.read_bytes.Reads as read-bytes
+use Rattle.values.proofs.scalar_end.Reads as scalar-end
 use Rattle.values.proofs.read_items.Reads as read-items
 use Rattle.values.proofs.read_items.Kinds as read-items-kinds
-use Rattle.values.proofs.+read_items+read_value.Lts-read_items as read-items-lts
-use Rattle.values.proofs.read_value.Reads as read-value
-use Rattle.values.proofs.read_value.Kinds as read-value-kinds
-use Rattle.values.proofs.+read_items+read_value.Lts-read_value as read-value-lts
-use Rattle.values.proofs.+read_items+read_value.{statement}
-use Rattle.values.proofs.+read_items+read_value.Tie.{close}
+use Rattle.values.proofs.+read_items+read_one.Lts-read_items as read-items-lts
+use Rattle.values.proofs.read_one.Reads as read-one
+use Rattle.values.proofs.read_one.Kinds as read-one-kinds
+use Rattle.values.proofs.+read_items+read_one.Lts-read_one as read-one-lts
+use Rattle.values.proofs.+read_items+read_one.{statement}
+use Rattle.values.proofs.+read_items+read_one.Tie.{close}
 
 abbrev μ-read-items : Measures 1 read-items-kinds.ps ℕ
 μ-read-items κs a = 2 * a .1 .1 .1 .1 .1 .0
 
-abbrev μ-read-value : Measures 1 read-value-kinds.ps ℕ
-μ-read-value κs a = 2 * a .1 .1 .0 + 1
+abbrev μ-read-one : Measures 1 read-one-kinds.ps ℕ
+μ-read-one κs a = 2 * a .1 .1 .0 + 1
 
 abbrev read-items-at : ℕ → In 1 read-items-kinds.ps
 read-items-at t =
@@ -41,18 +44,18 @@ abbrev read-items-below : ℕ → In 1 read-items-kinds.ps
 read-items-below t =
     and 1 read-items-kinds.ps (falls 1 read-items-kinds.ps _<_ μ-read-items t) read-items.Pre
 
-abbrev read-value-at : ℕ → In 1 read-value-kinds.ps
-read-value-at t =
-    and 1 read-value-kinds.ps (is 1 read-value-kinds.ps μ-read-value t) read-value.Pre
+abbrev read-one-at : ℕ → In 1 read-one-kinds.ps
+read-one-at t =
+    and 1 read-one-kinds.ps (is 1 read-one-kinds.ps μ-read-one t) read-one.Pre
 
-abbrev read-value-below : ℕ → In 1 read-value-kinds.ps
-read-value-below t =
-    and 1 read-value-kinds.ps (falls 1 read-value-kinds.ps _<_ μ-read-value t) read-value.Pre
+abbrev read-one-below : ℕ → In 1 read-one-kinds.ps
+read-one-below t =
+    and 1 read-one-kinds.ps (falls 1 read-one-kinds.ps _<_ μ-read-one t) read-one.Pre
 
 abbrev items-calls : ℕ → read-items-lts.Claims
-items-calls t = (number-at.Asked, number-at.Learnt, read-value-below t, read-value.Post)
+items-calls t = (number-at.Asked, number-at.Learnt, scalar-end.Asked, scalar-end.Learnt, read-one-below t, read-one.Post)
 
-abbrev value-calls : ℕ → read-value-lts.Claims
+abbrev value-calls : ℕ → read-one-lts.Claims
 value-calls t = (form-of.Asked, form-of.Learnt, read-bytes.Asked, read-bytes.Learnt, read-items-below t, read-items.Post)
 
 abbrev Inv-loop : read-items-lts.InvT-loop
@@ -134,11 +137,11 @@ items-loop-holds t c =
     ∙ Laws.inside-items (a .s .now) (a .at) (a .depth - 1) (a .width) (a .fixed) (a .per)
     ∙ Laws.sized-is (a .s .now) (a .at + 1) (a .width) _ (λ n t. items (value (a .depth - 1)) (n * a .per + a .fixed) t) (k .there) (k .count)
 
-items-sub-read-value : (t : ℕ) → read-items-lts.Need-sub-read-value (items-calls t) (read-items-at t) read-items.Post Inv-loop μ-loop
-items-sub-read-value t c = omega arith
+items-sub-read-one : (t : ℕ) → read-items-lts.Need-sub-read-one (items-calls t) (read-items-at t) read-items.Post Inv-loop μ-loop
+items-sub-read-one t c = omega arith
 
-items-read-value-requires : (t : ℕ) → read-items-lts.Need-read-value-requires (items-calls t) (read-items-at t) read-items.Post Inv-loop μ-loop
-items-read-value-requires t c κs = (omega arith, tt)
+items-read-one-requires : (t : ℕ) → read-items-lts.Need-read-one-requires (items-calls t) (read-items-at t) read-items.Post Inv-loop μ-loop
+items-read-one-requires t c κs = (omega arith, tt)
 
 items-enum-known-next : (t : ℕ) → read-items-lts.Need-enum-known-next (items-calls t) (read-items-at t) read-items.Post Inv-loop μ-loop
 items-enum-known-next t c = search needs
@@ -148,12 +151,27 @@ items-enum-known-place t c = search needs
 
 items-returns-3 : (t : ℕ) → read-items-lts.Need-returns-3 (items-calls t) (read-items-at t) read-items.Post Inv-loop μ-loop
 items-returns-3 t c =
-    let l = c .before .before .before .before .before .loop in
-    let a = c .before .before .before .before .before .before .before .before .before .before .before .before .args in
+    let l = c .before .before .before .before .before .before .before .loop in
+    let a = c .before .before .before .before .before .before .before .before .before .before .before .before .before .before .args in
     let e : l .left ≡ suc (l .left - 1) = omega arith in
     let i = rw e at (l .inv) in
-    Laws.items-broken (value (a .depth - 1)) (a .s .now) (l .end) (l .left - 1) (c .before .place .given .0 .0) (sym (c .before .place .given .1) ∙ c .before .before .before .read-value .ensures)
+    Laws.items-broken (value (a .depth - 1)) (a .s .now) (l .end) (l .left - 1) (c .before .place .given .0 .0) (sym (c .before .place .given .1) ∙ c .before .before .before .read-one .ensures)
     ∙ sym i
+
+-- the value that was passed over, either way
+passed : (t : ℕ) (c : read-items-lts.Joined2 (items-calls t) (read-items-at t) read-items.Post Inv-loop μ-loop) →
+    (let l = c .before .before .before .loop in let a = c .before .before .before .before .before .before .before .before .before .before .args in
+    Whole (c .if2 .end) ≡ shift (l .end) (value (a .depth - 1) (drop (l .end) (a .s .now))))
+passed t c =
+    let l = c .before .before .before .loop in
+    let a = c .before .before .before .before .before .before .before .before .before .before .args in
+    ⊎-elim
+    (λ x. ap Whole (x .1) ∙ scalar-value (a .s .now) (l .end) (a .depth - 1) _ (x .0 .taken) (c .before .scalar-end .ensures))
+    (λ x. ap Whole (x .5) ∙ sym (x .3 .given .1) ∙ x .1 .ensures)
+    (c .if2 .came)
+
+items-scalar-end-requires : (t : ℕ) → read-items-lts.Need-scalar-end-requires (items-calls t) (read-items-at t) read-items.Post Inv-loop μ-loop
+items-scalar-end-requires t c κs = search needs
 
 items-sub-left : (t : ℕ) → read-items-lts.Need-sub-left (items-calls t) (read-items-at t) read-items.Post Inv-loop μ-loop
 items-sub-left t c = omega arith
@@ -163,11 +181,11 @@ items-loop-less t c = omega arith
 
 items-loop-again : (t : ℕ) → read-items-lts.Need-loop-again (items-calls t) (read-items-at t) read-items.Post Inv-loop μ-loop
 items-loop-again t c =
-    let l = c .before .before .before .before .before .loop in
-    let a = c .before .before .before .before .before .before .before .before .before .before .before .before .args in
+    let l = c .before .before .before .loop in
+    let a = c .before .before .before .before .before .before .before .before .before .before .args in
     let e : l .left ≡ suc (l .left - 1) = omega arith in
     let i = rw e at (l .inv) in
-    i ∙ Laws.items-whole (value (a .depth - 1)) (a .s .now) (l .end) (l .left - 1) (c .before .next .given .0 .0) (sym (c .before .next .given .1) ∙ c .before .before .before .read-value .ensures)
+    i ∙ Laws.items-whole (value (a .depth - 1)) (a .s .now) (l .end) (l .left - 1) (c .if2 .end) (passed t c)
 
 items-returns-4 : (t : ℕ) → read-items-lts.Need-returns-4 (items-calls t) (read-items-at t) read-items.Post Inv-loop μ-loop
 unfolding items
@@ -177,27 +195,27 @@ items-returns-4 t c =
     let i = rw e at (l .inv) in
     sym (i ∙ ap Whole (add-zero (l .end)))
 
-value-returns : (t : ℕ) → read-value-lts.Need-returns (value-calls t) (read-value-at t) read-value.Post
+value-returns : (t : ℕ) → read-one-lts.Need-returns (value-calls t) (read-one-at t) read-one.Post
 value-returns t c =
     let a = c .before .before .args in
     Laws.value-end (a .s .now) (a .at) (a .depth) (c .if1 .taken)
 
-value-shared-slice-read-form-of : (t : ℕ) → read-value-lts.Need-shared-slice-read-form-of (value-calls t) (read-value-at t) read-value.Post
+value-shared-slice-read-form-of : (t : ℕ) → read-one-lts.Need-shared-slice-read-form-of (value-calls t) (read-one-at t) read-one.Post
 value-shared-slice-read-form-of t c = omega arith
 
-value-form-of-requires : (t : ℕ) → read-value-lts.Need-form-of-requires (value-calls t) (read-value-at t) read-value.Post
+value-form-of-requires : (t : ℕ) → read-one-lts.Need-form-of-requires (value-calls t) (read-one-at t) read-one.Post
 value-form-of-requires t c κs = search needs
 
-value-enum-told : (t : ℕ) → read-value-lts.Need-enum-told (value-calls t) (read-value-at t) read-value.Post
+value-enum-told : (t : ℕ) → read-one-lts.Need-enum-told (value-calls t) (read-one-at t) read-one.Post
 value-enum-told t c = search needs
 
-value-enum-known-width : (t : ℕ) → read-value-lts.Need-enum-known-width (value-calls t) (read-value-at t) read-value.Post
+value-enum-known-width : (t : ℕ) → read-one-lts.Need-enum-known-width (value-calls t) (read-one-at t) read-one.Post
 value-enum-known-width t c = search needs
 
-value-add-read-bytes : (t : ℕ) → read-value-lts.Need-add-read-bytes (value-calls t) (read-value-at t) read-value.Post
+value-add-read-bytes : (t : ℕ) → read-one-lts.Need-add-read-bytes (value-calls t) (read-one-at t) read-one.Post
 value-add-read-bytes t c = omega arith
 
-value-read-bytes-requires : (t : ℕ) → read-value-lts.Need-read-bytes-requires (value-calls t) (read-value-at t) read-value.Post
+value-read-bytes-requires : (t : ℕ) → read-one-lts.Need-read-bytes-requires (value-calls t) (read-one-at t) read-one.Post
 value-read-bytes-requires t c κs =
     let a = c .before .before .before .before .before .before .before .args in
     let b = c .before .before .before .before .shared-slice-known2 .given (a .at) in
@@ -205,10 +223,10 @@ value-read-bytes-requires t c κs =
     let k = Laws.scalar-small (getD (a .s .now) (a .at) 0) (w .0 .0) (w .0 .1 .0) (w .0 .1 .1 .0) (omega arith) (sym (w .1) ∙ c .before .before .before .form-of .ensures) in
     (omega arith, k)
 
-value-enum-known-width-2 : (t : ℕ) → read-value-lts.Need-enum-known-width-2 (value-calls t) (read-value-at t) read-value.Post
+value-enum-known-width-2 : (t : ℕ) → read-one-lts.Need-enum-known-width-2 (value-calls t) (read-one-at t) read-one.Post
 value-enum-known-width-2 t c = search needs
 
-value-read-items-requires : (t : ℕ) → read-value-lts.Need-read-items-requires (value-calls t) (read-value-at t) read-value.Post
+value-read-items-requires : (t : ℕ) → read-one-lts.Need-read-items-requires (value-calls t) (read-one-at t) read-one.Post
 value-read-items-requires t c κs =
     let a = c .before .before .before .before .before .before .before .args in
     let b = c .before .before .before .before .shared-slice-known2 .given (a .at) in
@@ -216,10 +234,10 @@ value-read-items-requires t c κs =
     let k = Laws.array-small (getD (a .s .now) (a .at) 0) (w .0 .0) (w .0 .1 .0) (omega arith) (sym (w .1) ∙ c .before .before .before .form-of .ensures) in
     (omega arith, (omega arith, (k .0, (k .1, omega arith))))
 
-value-enum-known-width-3 : (t : ℕ) → read-value-lts.Need-enum-known-width-3 (value-calls t) (read-value-at t) read-value.Post
+value-enum-known-width-3 : (t : ℕ) → read-one-lts.Need-enum-known-width-3 (value-calls t) (read-one-at t) read-one.Post
 value-enum-known-width-3 t c = search needs
 
-value-read-items-requires-2 : (t : ℕ) → read-value-lts.Need-read-items-requires-2 (value-calls t) (read-value-at t) read-value.Post
+value-read-items-requires-2 : (t : ℕ) → read-one-lts.Need-read-items-requires-2 (value-calls t) (read-one-at t) read-one.Post
 value-read-items-requires-2 t c κs =
     let a = c .before .before .before .before .before .before .before .args in
     let b = c .before .before .before .before .shared-slice-known2 .given (a .at) in
@@ -227,19 +245,19 @@ value-read-items-requires-2 t c κs =
     let k = Laws.map-small (getD (a .s .now) (a .at) 0) (w .0 .0) (w .0 .1 .0) (omega arith) (sym (w .1) ∙ c .before .before .before .form-of .ensures) in
     (omega arith, (omega arith, (k .0, (k .1, omega arith))))
 
-value-returns-2 : (t : ℕ) → read-value-lts.Need-returns-2 (value-calls t) (read-value-at t) read-value.Post
+value-returns-2 : (t : ℕ) → read-one-lts.Need-returns-2 (value-calls t) (read-one-at t) read-one.Post
 value-returns-2 t c =
     let a = c .before .before .before .before .before .before .args in
     Laws.value-unused (a .s .now) (a .at) (a .depth) (omega arith) (sym (c .enum-told .given .1) ∙ c .before .before .form-of .ensures)
 
-value-returns-3 : (t : ℕ) → read-value-lts.Need-returns-3 (value-calls t) (read-value-at t) read-value.Post
+value-returns-3 : (t : ℕ) → read-one-lts.Need-returns-3 (value-calls t) (read-one-at t) read-one.Post
 value-returns-3 t c =
     let a = c .before .before .before .before .before .before .before .before .args in
     let w = c .before .before .width .given in
     c .read-bytes .ensures
     ∙ sym (Laws.value-scalar (a .s .now) (a .at) (a .depth) (w .0 .0) (w .0 .1 .0) (w .0 .1 .1 .0) (omega arith) (sym (w .1) ∙ c .before .before .before .before .form-of .ensures))
 
-value-returns-4 : (t : ℕ) → read-value-lts.Need-returns-4 (value-calls t) (read-value-at t) read-value.Post
+value-returns-4 : (t : ℕ) → read-one-lts.Need-returns-4 (value-calls t) (read-one-at t) read-one.Post
 unfolding byForm
 value-returns-4 t c =
     let a = c .before .before .before .before .before .before .before .before .args in
@@ -247,7 +265,7 @@ value-returns-4 t c =
     c .read-items .ensures
     ∙ ap (shift (a .at)) (sym (Laws.value-at (a .s .now) (a .at) (a .depth) (Array (w .0 .0) (w .0 .1 .0)) (omega arith) (sym (w .1) ∙ c .before .before .before .before .form-of .ensures)))
 
-value-returns-5 : (t : ℕ) → read-value-lts.Need-returns-5 (value-calls t) (read-value-at t) read-value.Post
+value-returns-5 : (t : ℕ) → read-one-lts.Need-returns-5 (value-calls t) (read-one-at t) read-one.Post
 unfolding byForm
 value-returns-5 t c =
     let a = c .before .before .before .before .before .before .before .before .args in
@@ -255,9 +273,9 @@ value-returns-5 t c =
     c .read-items2 .ensures
     ∙ ap (shift (a .at)) (sym (Laws.value-at (a .s .now) (a .at) (a .depth) (Map (w .0 .0) (w .0 .1 .0)) (omega arith) (sym (w .1) ∙ c .before .before .before .before .form-of .ensures)))
 
-pub +read-items+read-value-spec : {M : Type 1} → statement M
-+read-items+read-value-spec =
-    close μ-read-items μ-read-value
+pub +read-items+read-one-spec : {M : Type 1} → statement M
++read-items+read-one-spec =
+    close μ-read-items μ-read-one
     (λ t. read-items-lts.spec (items-calls t) (read-items-at t) read-items.Post Inv-loop μ-loop
     (items-returns t)
     (items-add-number-at t)
@@ -270,8 +288,9 @@ pub +read-items+read-value-spec : {M : Type 1} → statement M
     (items-mul-left t)
     (items-add-left t)
     (items-loop-holds t)
-    (items-sub-read-value t)
-    (items-read-value-requires t)
+    (items-scalar-end-requires t)
+    (items-sub-read-one t)
+    (items-read-one-requires t)
     (items-enum-known-next t)
     (items-enum-known-place t)
     (items-returns-3 t)
@@ -279,7 +298,7 @@ pub +read-items+read-value-spec : {M : Type 1} → statement M
     (items-loop-less t)
     (items-loop-again t)
     (items-returns-4 t))
-    (λ t. read-value-lts.spec (value-calls t) (read-value-at t) read-value.Post
+    (λ t. read-one-lts.spec (value-calls t) (read-one-at t) read-one.Post
     (value-returns t)
     (value-shared-slice-read-form-of t)
     (value-form-of-requires t)

@@ -1,8 +1,8 @@
 -- The base is taken off a number that is at least the base. Assumes nothing.
 use Rattle.parts.proofs.Steps as Steps
 use borrow.Author.Needs.{needs}
-use Rattle.parts.proofs.field_of.Statement.{statement}
-use Rattle.parts.proofs.field_of.Tie as tie
+use Rattle.numbers.proofs.field_of.Statement.{statement}
+use Rattle.numbers.proofs.field_of.Tie as tie
 
 enum-known-number : tie.Need-enum-known-number
 enum-known-number c = search needs

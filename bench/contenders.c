@@ -1,0 +1,106 @@
+#include "contenders.h"
+
+#include "plain_update.h"
+
+#ifdef HAVE_MSGPUCK
+#include <msgpuck.h>
+#endif
+#ifdef HAVE_MSGPACK
+#include <msgpack.h>
+#endif
+
+uint64_t lak_values(void *sample)
+{
+    const struct sample *s = sample;
+    size_t at = 0;
+    while (at < s->n) {
+        lak_value_answer a = lak_value_read(s->bytes + at, s->n - at);
+        if (a.number)
+            return at;
+        at += a.length;
+    }
+    return at;
+}
+
+#ifdef HAVE_MSGPUCK
+static uint64_t check_values(void *sample)
+{
+    const struct sample *s = sample;
+    const char *start = (const char *)s->bytes, *end = start + s->n, *at = start;
+    while (at < end)
+        if (mp_check(&at, end))
+            return 0;
+    return (uint64_t)(at - start);
+}
+
+const bench_work msgpuck_values = check_values;
+#else
+const bench_work msgpuck_values = NULL;
+#endif
+
+#ifdef HAVE_MSGPACK
+/* One zone for all calls, emptied after each: the least that it asks for. */
+static uint64_t unpack_values(void *sample)
+{
+    static msgpack_zone *zone;
+    const struct sample *s = sample;
+    size_t at = 0;
+    if (!zone)
+        zone = msgpack_zone_new(MSGPACK_ZONE_CHUNK_SIZE);
+    while (at < s->n) {
+        msgpack_object object;
+        int r = msgpack_unpack((const char *)s->bytes, s->n, &at, zone, &object);
+        msgpack_zone_clear(zone);
+        if (r != MSGPACK_UNPACK_SUCCESS && r != MSGPACK_UNPACK_EXTRA_BYTES)
+            return 0;
+    }
+    return at;
+}
+
+const bench_work msgpack_values = unpack_values;
+#else
+const bench_work msgpack_values = NULL;
+#endif
+
+uint64_t lak_frame_reading(void *frame_input)
+{
+    struct frame_input *f = frame_input;
+    lak_frame_answer a = lak_frame_read(f->bytes->bytes, f->bytes->n);
+    return a.length + a.frame.code;
+}
+
+uint64_t lak_frame_writing(void *frame_input)
+{
+    struct frame_input *f = frame_input;
+    return lak_frame_write(f->record, f->bytes->bytes, f->bytes->n, f->out, sizeof f->out).length;
+}
+
+uint64_t msgpuck_frame(void *frame_input)
+{
+    struct frame_input *f = frame_input;
+    return msgpuck_values(f->bytes);
+}
+
+uint64_t lak_updating(void *update_input)
+{
+    struct update_input *u = update_input;
+    return lak_update(u->tuple.bytes, u->tuple.n, u->list.bytes, u->list.n, INDEX_BASE, u->out, sizeof u->out).length;
+}
+
+uint64_t lak_undoing(void *update_input)
+{
+    struct update_input *u = update_input;
+    return lak_undo(u->tuple.bytes, u->tuple.n, u->list.bytes, u->list.n, INDEX_BASE, u->out, sizeof u->out).length;
+}
+
+uint64_t plain_updating(void *update_input)
+{
+    struct update_input *u = update_input;
+    return plain_update(u->tuple.bytes, u->tuple.n, u->list.bytes, u->list.n, INDEX_BASE, u->out, sizeof u->out).length;
+}
+
+uint64_t plain_undoing(void *update_input)
+{
+    struct update_input *u = update_input;
+    return plain_undo(u->tuple.bytes, u->tuple.n, u->list.bytes, u->list.n, INDEX_BASE, u->out, sizeof u->out).length;
+}

@@ -1,0 +1,66 @@
+// The numbers of an operation, each at a place of the bytes.
+use parts::Field;
+use parts::Natural;
+use parts::Signed;
+use scalars::Int;
+use scalars::Integer;
+ghost use mathlib.Core.Path.{_≡_};
+ghost use lib.ListN.{drop};
+ghost use Rattle.tuples.specs.Decoding.{less, anyInteger, atLeast, position};
+ghost use Rattle.parts.specs.Part.{fieldBy, SignedAt, NaturalAt};
+
+// The field number without the index base.
+pub fn field_of(number: Int, base: u64) -> Field
+    ensures { λ r. ⌜ r ≡ fieldBy (less base number) ⌝ }
+{
+    match number {
+        Int::FromZero(n) => {
+            if base <= n {
+                Field::At(n - base)
+            } else {
+                Field::Below
+            }
+        }
+        Int::BelowZero(_) => Field::Below,
+    }
+}
+
+// The integer at `at`.
+pub fn any_integer(s: &[u8], at: usize) -> Signed
+    ensures { λ r. ⌜ SignedAt (now (s .entry)) r (anyInteger (drop at (now (s .entry)))) ⌝ }
+{
+    match scalars::integer_at(s, at) {
+        Integer::Is(z, end) => Signed::Is(z, end),
+        Integer::Cut => Signed::Bad,
+        Integer::Other => Signed::Bad,
+    }
+}
+
+// The integer at `at`, where it is `low` at least.
+pub fn at_least(s: &[u8], at: usize, low: u64) -> Natural
+    ensures { λ r. ⌜ NaturalAt (now (s .entry)) r (atLeast low (drop at (now (s .entry)))) ⌝ }
+{
+    let Signed::Is(z, end) = any_integer(s, at) else {
+        return Natural::Bad;
+    };
+    let Int::FromZero(n) = z else {
+        return Natural::Bad;
+    };
+    if n < low {
+        return Natural::Bad;
+    }
+    Natural::Is(n, end)
+}
+
+// The integer at `at` less the index base, where that is 0 at least.
+pub fn position_at(s: &[u8], at: usize, base: u64) -> Natural
+    ensures { λ r. ⌜ NaturalAt (now (s .entry)) r (position base (drop at (now (s .entry)))) ⌝ }
+{
+    let Signed::Is(z, end) = any_integer(s, at) else {
+        return Natural::Bad;
+    };
+    let Field::At(p) = field_of(z, base) else {
+        return Natural::Bad;
+    };
+    Natural::Is(p, end)
+}
