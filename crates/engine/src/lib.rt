@@ -53,23 +53,23 @@ pub fn end_of(lengths: &[usize], n: usize) -> usize
 }
 
 // Where a field starts and ends.
-pub struct Ends {
+pub struct Extent {
     pub from: usize,
     pub to: usize,
 }
 
-pub fn ends_of(lengths: &[usize], f: usize) -> Ends
+pub fn extent_of(lengths: &[usize], f: usize) -> Extent
     ensures { λ r. ⌜ (r .from ≡ endOf (now (lengths .entry)) f) × (r .to ≡ endOf (now (lengths .entry)) (f + 1)) ⌝ }
 {
     let from = end_of(lengths, f);
     if lengths.len() <= f {
-        return Ends {
+        return Extent {
             from,
             to: MAX_TUPLE + 1,
         };
     }
     let to = end_after(lengths, f, from, f + 1);
-    Ends { from, to }
+    Extent { from, to }
 }
 
 // Why no edit reaches past the n fields: there are not so many; or the table does not hold them.

@@ -18,7 +18,8 @@ use Rattle.frame_items.specs.Content.{heldOf, itemOf, pairLength, capped}
 use Rattle.frame_items.specs.declared.KnownKey.{KnownKey}
 use Rattle.frame_items.proofs.Laws.{capped-low, capped-high}
 use Rattle.frame_judging.specs.Parts.{itemsBetween, pairOf, pairBytes}
-use Rattle.frame_judging.proofs.Runs.{pairs-few, pair-first, pair-long, header-run, body-run}
+use Rattle.frames.proofs.Pairs.{pairs-few}
+use Rattle.frame_judging.proofs.Runs.{pair-first, pair-long, header-run, body-run}
 
 -- as the smaller of two numbers, which arithmetic knows
 counted : (n : ℕ) → capped n ≡ min n 60001

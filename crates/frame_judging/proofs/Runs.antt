@@ -114,12 +114,3 @@ module _ (s : Bytes) (k : KnownKey) {xs rest : List Item} (e : xs ≡ itemOf s k
   pub pair-first : pairBytes xs ≡ pairOf (k .key) (encoded (heldOf s (k .content))) ++ pairBytes rest
   unfolding pairBytes pairs itemOf
   pair-first = rw e (onto-bytes (k .key) (encoded (heldOf s (k .content))) (pairs rest))
-
-pub pairs-few : (xs : List Item) → length (pairs xs) ≤ length xs
-unfolding pairs onto
-pairs-few [] = omega arith
-pairs-few (x ∷ xs) = go (encoded (x .held)) (pairs-few xs)
-  where
-    go : (o : Option Bytes) → length (pairs xs) ≤ length xs → length (onto (x .key) o (pairs xs)) ≤ suc (length xs)
-    go none h = omega arith
-    go (some v) h = omega arith

@@ -1,8 +1,8 @@
 -- Items with distinct keys, the pairs that are written of them, and what is read of those. Assumes nothing.
-use Prim.Native.Nat.{ℕ, zero, suc, _+_, _^_, _≤_, _<_}
+use Prim.Native.Nat.{ℕ, _^_, _<_}
 use mathlib.Core.Path.{_≡_, refl, sym, ap, ap₂, _∙_, subst}
 use mathlib.Core.Bool.{Bool, true, false, not, _&&_, _||_}
-use mathlib.Core.List.{List, [], _∷_, _++_}
+use mathlib.Core.List.{List, [], _∷_}
 use mathlib.Core.Option.{Option, none, some}
 use native.Mathlib.Omega.{arith}
 use borrow.Author.Tests.{ltb-true, leb-true, eqb-true, eqb-false, not-true, le-leb, eq-eqb, ne-eqb}
@@ -12,15 +12,14 @@ use Rattle.first_bytes.specs.Bytes.{Bytes, pick}
 use Rattle.values.specs.Value.{value}
 use Rattle.values.specs.declared.Read.{Read}
 use Rattle.values.specs.declared.Read.the-variants.{Whole, Broken}
-use Rattle.scalars.specs.Integer.{unsigned}
 use Rattle.writing.specs.Forms.{unsignedForm}
 use Rattle.frames.specs.declared.Place.{Place}
 use Rattle.frames.specs.declared.Rule.{Rule}
 use Rattle.frames.specs.declared.Rule.the-variants.{AtMost, Array, String, Anything}
 use Rattle.frames.specs.Limits.{max64, heldDepth}
-use Rattle.frames.specs.Held.{all, Held, absent, outside, number, bytes, view, natural, numberIn, suits, numbered, heldIn, heldAt, numberHeld, placeHeld, encoded, present, Item, item, locate}
+use Rattle.frames.specs.Held.{all, Held, absent, outside, number, bytes, view, numberIn, suits, numbered, heldIn, heldAt, numberHeld, placeHeld, encoded, present, Item, item, locate}
 use Rattle.frames.specs.Keys.{optional}
-use Rattle.frames.specs.Maps.{Entry, keys, has, distinct}
+use Rattle.frames.specs.Maps.{keys, has, distinct}
 use Rattle.frames.specs.Reading.{suited}
 use Rattle.frames.specs.Writing.{Pair, onto, pairs, isWhole, sound}
 use Rattle.frame_round_trip.proofs.Numbers.{unsigned-form, form-whole}
@@ -76,15 +75,6 @@ distinct-pairs (x ∷ xs) d =
 -- 7 does not come
 pub distinct-located : (at : ℕ) (xs : List Item) → distinct (itemKeys xs) ≡ true → distinct (keys (located at (pairs xs))) ≡ true
 distinct-located at xs d = rw located-keys (distinct-pairs xs d)
-
-pub pairs-few : (xs : List Item) → length (pairs xs) ≤ length xs
-unfolding pairs onto
-pairs-few [] = omega arith
-pairs-few (x ∷ xs) = go (encoded (x .held)) (pairs-few xs)
-  where
-    go : (o : Option Bytes) → length (pairs xs) ≤ length xs → length (onto (x .key) o (pairs xs)) ≤ suc (length xs)
-    go none i = omega arith
-    go (some v) i = omega arith
 
 -- ---- under its key each item's encoding is found
 

@@ -35,7 +35,8 @@ use Rattle.frames.specs.Writing.{Pair, flat, pairs, mapForm, contents, frameFor
 use Rattle.frame_round_trip.specs.RoundTrip.{RoundTrip, RoundTrips}
 use Rattle.frame_round_trip.proofs.Numbers.{size-read}
 use Rattle.frame_round_trip.proofs.Maps.{All, Fine, located, behind, Stands, seek, map-whole, map-entries, found}
-use Rattle.frame_round_trip.proofs.Items.{never, both, itemKeys, narrow, Ready, ready, tabled, pairs-few, pairs-fine, distinct-located, seek-pairs, again, Back, Backs, number-back, backs, reread, reread-back, suited-back, present-stands}
+use Rattle.frames.proofs.Pairs.{pairs-few}
+use Rattle.frame_round_trip.proofs.Items.{never, both, itemKeys, narrow, Ready, ready, tabled, pairs-fine, distinct-located, seek-pairs, again, Back, Backs, number-back, backs, reread, reread-back, suited-back, present-stands}
 
 -- ---- from bytes to maps
 

@@ -1,1 +1,2 @@
 -- The laws of frames. Assumes nothing.
+pub mod Pairs

@@ -91,11 +91,11 @@ pub fn plan(
     if n <= f {
         return plan_whole(action, f, n);
     }
-    let ends = engine::ends_of(lengths, f);
+    let extent = engine::extent_of(lengths, f);
     match altering::alter(
         action,
         list,
-        splicing::bytes_of(scratch, ends.from, ends.to),
+        splicing::bytes_of(scratch, extent.from, extent.to),
         work,
     ) {
         Altered::Is(k) => Planned::Alter(f, k),

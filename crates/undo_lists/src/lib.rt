@@ -50,13 +50,13 @@ fn lay_field(
     if undo.len() <= bytes {
         return undo.len() + 1;
     }
-    let ends = engine::ends_of(lengths, at);
+    let extent = engine::extent_of(lengths, at);
     lay_operation(
         undo,
         bytes,
         mark,
         f as u64,
-        splicing::bytes_of(scratch, ends.from, ends.to),
+        splicing::bytes_of(scratch, extent.from, extent.to),
     )
 }
 

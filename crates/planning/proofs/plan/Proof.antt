@@ -8,7 +8,7 @@ use Rattle.planning.proofs.plan.Tie as tie
 
 -- the bytes that are handed on are the field's
 bytes : (b : tie.After-bytes-of) → (let a = b .before .before .before .before .before .before .before .before .before .before .args in b .bytes-of .result .now ≡ fieldBytes (a .scratch .now) (a .lengths .now) (b .before .before .before .before .field .given .0 .0))
-bytes b = b .bytes-of .ensures ∙ rw (b .before .ends-of .ensures .0, b .before .ends-of .ensures .1)
+bytes b = b .bytes-of .ensures ∙ rw (b .before .extent-of .ensures .0, b .before .extent-of .ensures .1)
 
 enum-known-field : tie.Need-enum-known-field
 enum-known-field c = search needs
@@ -25,8 +25,8 @@ plan-whole-requires c κs = search needs
 returns-2 : tie.Need-returns-2
 returns-2 c = let a = c .before .before .before .before .before .before .before .before .before .args in past-fields (a .action) (a .list .now) (a .scratch .now) (a .lengths .now) (a .n) (a .work .now) (c .before .before .before .field .given .1) (c .before .if1 .taken) (c .plan-whole .ensures)
 
-ends-of-requires : tie.Need-ends-of-requires
-ends-of-requires c κs = search needs
+extent-of-requires : tie.Need-extent-of-requires
+extent-of-requires c κs = search needs
 
 bytes-of-requires : tie.Need-bytes-of-requires
 bytes-of-requires c κs = search needs
@@ -82,7 +82,7 @@ plan-spec =
     returns
     plan-whole-requires
     returns-2
-    ends-of-requires
+    extent-of-requires
     bytes-of-requires
     alter-requires
     enum-known-k

@@ -19,8 +19,8 @@ returns c =
     let e = operation-length (a .mark) (a .f) x in
     no-room (operationBytes (a .mark) (a .f) x) (a .bytes) (a .undo .now) (omega arith)
 
-ends-of-requires : tie.Need-ends-of-requires
-ends-of-requires c κs = search needs
+extent-of-requires : tie.Need-extent-of-requires
+extent-of-requires c κs = search needs
 
 bytes-of-requires : tie.Need-bytes-of-requires
 bytes-of-requires c κs = search needs
@@ -37,7 +37,7 @@ returns-2 c =
     let p = l .before in
     let e = p .before .before in
     let a = c .before .before .before .before .before .before .before .before .before .before .args in
-    lays-field (a .mark) (a .f) (a .bytes) (a .undo .now) (p .bytes-of .ensures ∙ rw (e .ends-of .ensures .0, e .ends-of .ensures .1)) (l .lay-operation .ensures)
+    lays-field (a .mark) (a .f) (a .bytes) (a .undo .now) (p .bytes-of .ensures ∙ rw (e .extent-of .ensures .0, e .extent-of .ensures .1)) (l .lay-operation .ensures)
 
 pub lay-field-spec : {M : Type 1} → statement M
 lay-field-spec =
@@ -45,7 +45,7 @@ lay-field-spec =
     (tie.spec
     add-result
     returns
-    ends-of-requires
+    extent-of-requires
     bytes-of-requires
     lay-operation-requires
     same-length
