@@ -56,23 +56,20 @@ and-false : (a : Bool) → (a && false) ≡ false
 and-false true = refl
 and-false false = refl
 
-limited-is : (back : Bytes) (b n : ℕ) (us : List Bytes) → Piled back b us → length back ≡ maxList → n ≡ length us → listIn back n b ≡ limitedList us
-unfolding listIn limitedList plain
-limited-is back b n us p l e = ⊎-elim (λ h. fitting h) (λ h. past h) (either (length (joined us)) (length back))
-  where
-    fitting : length (joined us) ≤ length back → listIn back n b ≡ limitedList us
-    fitting h = let f = p .fits h in rw (f .1, f .0, e, plain-length us)
+module _ (back : Bytes) (b n : ℕ) (us : List Bytes) (p : Piled back b us) (e : n ≡ length us) where
+  limited-is : b ≤ length back → listIn back n b ≡ limitedList us
+  unfolding listIn limitedList plain
+  limited-is l = ⊎-elim (λ h. fitting h) (λ h. absurd (let f = p .past h in omega arith)) (either (length (joined us)) (length back))
+    where
+      fitting : length (joined us) ≤ length back → listIn back n b ≡ limitedList us
+      fitting h = let f = p .fits h in rw (f .1, f .0, e, plain-length us)
 
-    past : length back < length (joined us) → listIn back n b ≡ limitedList us
-    past h =
-        let f = p .past h in
-        let g = plain-length us in
-        rw (
-          lt-leb (length (arrayHeader n) + b) maxList (omega arith),
-          lt-leb (length (plain us)) maxList (omega arith),
-          and-false (leb n maxOperations),
-          and-false (leb (length us) maxOperations),
-        )
+  limited-past : length back < b → length back ≡ maxList → limitedList us ≡ refusal LongUndo 0
+  unfolding limitedList
+  limited-past l m = ⊎-elim (λ h. absurd (let f = p .fits h .0 in omega arith)) (λ h. past h) (either (length (joined us)) (length back))
+    where
+      past : length back < length (joined us) → limitedList us ≡ refusal LongUndo 0
+      past h = let g = plain-length us in rw (lt-leb (length (plain us)) maxList (omega arith), and-false (leb (length us) maxOperations))
 
 -- ---- what the undo call is to give
 
@@ -87,13 +84,23 @@ module _ (tuple list : Bytes) (base : ℕ) where
     unfolding undo undoListOf onRun
     undo-refused e = judged-is tuple list base q undoListOf ∙ rw (runs-is tuple list base q, e)
 
-    pub undo-done : {z : Stage} {s' : Bytes} {l' : List ℕ} {back : Bytes} → Through z s' l' back base count (drop start list) (fieldsIn s l n) → length back ≡ maxList
-        → undo tuple list base ≡ listIn back (z .laid) (z .bytes)
-    unfolding undo undoListOf onRun
-    undo-done {z} {s'} {l'} {back} t h =
-        judged-is tuple list base q undoListOf
-        ∙ rw (runs-is tuple list base q, t .goes, ← undo-is base count (drop start list) (q .os) (fieldsIn s l n) (q .there))
-        (sym (limited-is back (z .bytes) (z .laid) (undoFrom base count (drop start list) (fieldsIn s l n)) (t .piled) h (t .laid)))
+    module _ {z : Stage} {s' : Bytes} {l' : List ℕ} {back : Bytes} (t : Through z s' l' back base count (drop start list) (fieldsIn s l n)) where
+      us : List Bytes
+      us = undoFrom base count (drop start list) (fieldsIn s l n)
+
+      undo-limited : undo tuple list base ≡ limitedList us
+      unfolding undo undoListOf onRun us
+      undo-limited =
+          judged-is tuple list base q undoListOf
+          ∙ rw (runs-is tuple list base q, t .goes, ← undo-is base count (drop start list) (q .os) (fieldsIn s l n) (q .there))
+
+      pub undo-done : z .bytes ≤ length back → undo tuple list base ≡ listIn back (z .laid) (z .bytes)
+      unfolding us
+      undo-done h = undo-limited ∙ sym (limited-is back (z .bytes) (z .laid) us (t .piled) (t .laid) h)
+
+      pub undo-past : length back < z .bytes → length back ≡ maxList → undo tuple list base ≡ refusal LongUndo 0
+      unfolding us
+      undo-past h m = undo-limited ∙ limited-past back (z .bytes) (z .laid) us (t .piled) (t .laid) h m
 
   pub seen-undo : {o : Outcome} {r : Result} (out : Bytes) → undo tuple list base ≡ o → r ≡ delivered o out → r ≡ undoCall tuple list base out
   unfolding undoCall

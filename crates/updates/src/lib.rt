@@ -11,11 +11,20 @@ use tuples::MAX_OPERATIONS;
 use tuples::MAX_TUPLE;
 use tuples::Refusal;
 ghost use mathlib.Core.Path.{_≡_};
+ghost use Prim.Native.Nat.{_≤_};
 ghost use lib.ListN.{length};
-ghost use Rattle.tuples.specs.Limits.{maxList};
 ghost use Rattle.tuples.specs.Call.{delivered, updateCall, undoCall};
 ghost use Rattle.answers.specs.Seen.{seen};
-ghost use Rattle.updates.specs.Listing.{listIn};
+ghost use Rattle.updates.specs.Listing.{listIn, Tries};
+
+// Up to this length, the undo list of a tuple and a list is expected to be three times as long at most.
+const SHORT: usize = 2048;
+
+// The undo call's answer; or the operations of the undo list have no room, and nothing was written.
+enum Tried {
+    Answered(Answer),
+    NoRoom,
+}
 
 // The list's operations on the tuple; the new tuple into `out`. The call needs no undo list, and
 // lends no room for one.
@@ -53,7 +62,7 @@ pub fn update(tuple: &[u8], list: &[u8], index_base: u64, out: &mut [u8]) -> Ans
 
 // The undo list of so many operations, whose bytes lie at the end of the buffer.
 fn finish(undo: &[u8], laid: usize, bytes: usize, out: &mut [u8]) -> Answer
-    requires { ⌜ length (now undo) ≡ maxList ⌝ }
+    requires { ⌜ bytes ≤ length (now undo) ⌝ }
     ensures { λ r. ⌜ seen r (now (out .exit)) ≡ delivered (listIn (now (undo .entry)) laid bytes) (now (out .entry)) ⌝ }
 {
     if MAX_OPERATIONS < laid {
@@ -66,16 +75,15 @@ fn finish(undo: &[u8], laid: usize, bytes: usize, out: &mut [u8]) -> Answer
     answers::deliver(laid as u32, &undo[start..], out)
 }
 
-// What takes the list's operations on the tuple back; the undo list into `out`.
-pub fn undo(tuple: &[u8], list: &[u8], index_base: u64, out: &mut [u8]) -> Answer
-    ensures { λ r. ⌜ seen r (now (out .exit)) ≡ undoCall (now (tuple .entry)) (now (list .entry)) «index_base» (now (out .entry)) ⌝ }
+// The undo call with a buffer for the undo list's operations, which says where they have no room.
+fn undo_in(tuple: &[u8], list: &[u8], index_base: u64, back: &mut [u8], out: &mut [u8]) -> Tried
+    ensures { λ r. ⌜ Tries r (now (back .entry)) (now (tuple .entry)) (now (list .entry)) «index_base» (now (out .entry)) (now (out .exit)) ⌝ }
 {
     let mut scratch = [0u8; MAX_TUPLE];
     let mut lengths = [0usize; MAX_FIELDS];
     let mut work = [0u8; MAX_TUPLE];
-    let mut back = [0u8; MAX_LIST];
     match begin::begin(tuple, list, index_base, &mut scratch, &mut lengths) {
-        Begun::Refused(refusal) => answers::refused(refusal, 0),
+        Begun::Refused(refusal) => Tried::Answered(answers::refused(refusal, 0)),
         Begun::Ready(n, count, start) => {
             match run::run(
                 list,
@@ -86,11 +94,46 @@ pub fn undo(tuple: &[u8], list: &[u8], index_base: u64, out: &mut [u8]) -> Answe
                 &mut lengths,
                 n,
                 &mut work,
-                &mut back,
+                back,
             ) {
-                Ran::Refused(refusal, i) => answers::refused(refusal, i as u32),
-                Ran::Done(stage) => finish(&back, stage.laid, stage.bytes, out),
+                Ran::Refused(refusal, i) => Tried::Answered(answers::refused(refusal, i as u32)),
+                Ran::Done(stage) => {
+                    let bytes = stage.bytes;
+                    if back.len() < bytes {
+                        return Tried::NoRoom;
+                    }
+                    Tried::Answered(finish(back, stage.laid, bytes, out))
+                }
             }
         }
     }
+}
+
+// With a buffer that has room for every undo list within the limits.
+fn undo_long(tuple: &[u8], list: &[u8], index_base: u64, out: &mut [u8]) -> Answer
+    ensures { λ r. ⌜ seen r (now (out .exit)) ≡ undoCall (now (tuple .entry)) (now (list .entry)) «index_base» (now (out .entry)) ⌝ }
+{
+    let mut back = [0u8; MAX_LIST];
+    let Tried::Answered(answer) = undo_in(tuple, list, index_base, &mut back, out) else {
+        return answers::refused(Refusal::LongUndo, 0);
+    };
+    answer
+}
+
+// What takes the list's operations on the tuple back; the undo list into `out`. For a short tuple and
+// list a shorter buffer is tried first: to zero the long one takes longer than all else.
+pub fn undo(tuple: &[u8], list: &[u8], index_base: u64, out: &mut [u8]) -> Answer
+    ensures { λ r. ⌜ seen r (now (out .exit)) ≡ undoCall (now (tuple .entry)) (now (list .entry)) «index_base» (now (out .entry)) ⌝ }
+{
+    if SHORT < tuple.len() {
+        return undo_long(tuple, list, index_base, out);
+    }
+    if SHORT < list.len() {
+        return undo_long(tuple, list, index_base, out);
+    }
+    let mut back = [0u8; 3 * SHORT];
+    let Tried::Answered(answer) = undo_in(tuple, list, index_base, &mut back, out) else {
+        return undo_long(tuple, list, index_base, out);
+    };
+    answer
 }
