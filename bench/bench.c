@@ -1,4 +1,5 @@
-/* The whole benchmark, but for the server's own updates: `bench/run` measures those and hands them over in a file. */
+/* The whole benchmark, but for the server's own updates: `bench/run` measures those and hands them over in a
+ * file. */
 #include <stdio.h>
 #include <stdlib.h>
 #include <string.h>
@@ -58,7 +59,9 @@ static double megabytes(size_t bytes, double ns)
 static void values_row(const char *name)
 {
     struct contender c[3] = {
-        { lak_values, &sample, 0, 0 }, { msgpuck_values, &sample, 0, 0 }, { msgpack_values, &sample, 0, 0 },
+        { lak_values, &sample, 0, 0 },
+        { msgpuck_values, &sample, 0, 0 },
+        { msgpack_values, &sample, 0, 0 },
     };
     for (int i = 0; i < 3; i++)
         demand(!c[i].work || c[i].work(&sample) == sample.n, name);
@@ -73,8 +76,10 @@ static void values_row(const char *name)
 
 static void values_table(void)
 {
-    printf("\nReading values: lak_value_read; mp_check gives no meaning and knows no depth; msgpack_unpack makes a tree\n");
-    printf("%-28s %6s %9s %8s %9s %6s %9s %6s\n", "", "bytes", "ns", "MB/s", "mp_check", "ratio", "unpack", "ratio");
+    printf("\nReading values: lak_value_read; mp_check gives no meaning and knows no depth; msgpack_unpack "
+           "makes a tree\n");
+    printf("%-28s %6s %9s %8s %9s %6s %9s %6s\n", "", "bytes", "ns", "MB/s", "mp_check", "ratio", "unpack",
+           "ratio");
     select_sample(&sample);
     values_row("a select, as three values");
     answer_sample(&sample, 112);
@@ -117,9 +122,10 @@ static void frame_row(const char *name)
 
 static void frames_table(void)
 {
-    printf("\nFrames: lak_frame_read, beside it mp_check over the same bytes, which judges no key; lak_frame_write\n");
-    printf("%-28s %6s %9s %8s %9s %6s %9s %8s\n", "", "bytes", "read ns", "MB/s", "mp_check", "ratio", "write ns",
-           "MB/s");
+    printf("\nFrames: lak_frame_read, beside it mp_check over the same bytes, which judges no key; "
+           "lak_frame_write\n");
+    printf("%-28s %6s %9s %8s %9s %6s %9s %8s\n", "", "bytes", "read ns", "MB/s", "mp_check", "ratio",
+           "write ns", "MB/s");
     select_sample(&sample);
     frame_row("a select");
     update_frame_sample(&sample);
@@ -148,7 +154,8 @@ static void check_updates(void)
     const struct sample *t = &update.tuple, *l = &update.list;
     lak_answer a = lak_update(t->bytes, t->n, l->bytes, l->n, INDEX_BASE, update.out, sizeof update.out);
     struct plain_answer p = plain_update(t->bytes, t->n, l->bytes, l->n, INDEX_BASE, plain, sizeof plain);
-    demand(a.number == 0 && p.number == 0 && a.length == p.length && !memcmp(update.out, plain, p.length), "update");
+    demand(a.number == 0 && p.number == 0 && a.length == p.length && !memcmp(update.out, plain, p.length),
+           "update");
     a = lak_undo(t->bytes, t->n, l->bytes, l->n, INDEX_BASE, update.out, sizeof update.out);
     p = plain_undo(t->bytes, t->n, l->bytes, l->n, INDEX_BASE, plain, sizeof plain);
     demand(a.number == p.number && a.length == p.length && !memcmp(update.out, plain, p.length), "undo");
@@ -188,10 +195,11 @@ static void updates_table(const char *server_file)
     update_rows(rows);
     if (server_file)
         read_server_times(server_file, rows);
-    printf("\nUpdates: lak_update and lak_undo, against plain C (bench/plain_update.c) and the server's box_tuple_update\n");
+    printf("\nUpdates: lak_update and lak_undo, against plain C (bench/plain_update.c) and the server's "
+           "box_tuple_update\n");
     printf("(a tuple that it checked before; `and new`: made of the same bytes first)\n");
-    printf("%6s %4s %6s %9s %9s %6s %9s %6s %9s %6s %9s %9s %6s\n", "tuple", "ops", "list", "update ns", "plain C",
-           "ratio", "server", "ratio", "and new", "ratio", "undo ns", "plain C", "ratio");
+    printf("%6s %4s %6s %9s %9s %6s %9s %6s %9s %6s %9s %9s %6s\n", "tuple", "ops", "list", "update ns",
+           "plain C", "ratio", "server", "ratio", "and new", "ratio", "undo ns", "plain C", "ratio");
     for (size_t i = 0; i < UPDATE_ROWS; i++) {
         load_update(rows[i].bytes, rows[i].operations);
         update_row(&rows[i]);

@@ -84,23 +84,28 @@ uint64_t msgpuck_frame(void *frame_input)
 uint64_t lak_updating(void *update_input)
 {
     struct update_input *u = update_input;
-    return lak_update(u->tuple.bytes, u->tuple.n, u->list.bytes, u->list.n, INDEX_BASE, u->out, sizeof u->out).length;
+    return lak_update(u->tuple.bytes, u->tuple.n, u->list.bytes, u->list.n, INDEX_BASE, u->out, sizeof u->out)
+        .length;
 }
 
 uint64_t lak_undoing(void *update_input)
 {
     struct update_input *u = update_input;
-    return lak_undo(u->tuple.bytes, u->tuple.n, u->list.bytes, u->list.n, INDEX_BASE, u->out, sizeof u->out).length;
+    return lak_undo(u->tuple.bytes, u->tuple.n, u->list.bytes, u->list.n, INDEX_BASE, u->out, sizeof u->out)
+        .length;
 }
 
 uint64_t plain_updating(void *update_input)
 {
     struct update_input *u = update_input;
-    return plain_update(u->tuple.bytes, u->tuple.n, u->list.bytes, u->list.n, INDEX_BASE, u->out, sizeof u->out).length;
+    return plain_update(u->tuple.bytes, u->tuple.n, u->list.bytes, u->list.n, INDEX_BASE, u->out,
+                        sizeof u->out)
+        .length;
 }
 
 uint64_t plain_undoing(void *update_input)
 {
     struct update_input *u = update_input;
-    return plain_undo(u->tuple.bytes, u->tuple.n, u->list.bytes, u->list.n, INDEX_BASE, u->out, sizeof u->out).length;
+    return plain_undo(u->tuple.bytes, u->tuple.n, u->list.bytes, u->list.n, INDEX_BASE, u->out, sizeof u->out)
+        .length;
 }

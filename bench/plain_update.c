@@ -105,29 +105,48 @@ static bool pass_value(struct span *s, int depth)
     if (b < 0xc0)
         return pass_bytes(s, b & 31);
     switch (b) {
-    case 0xc0: case 0xc2: case 0xc3:
+    case 0xc0:
+    case 0xc2:
+    case 0xc3:
         return true;
-    case 0xc4: case 0xd9:
+    case 0xc4:
+    case 0xd9:
         return pass_sized(s, 1, 0);
-    case 0xc5: case 0xda:
+    case 0xc5:
+    case 0xda:
         return pass_sized(s, 2, 0);
-    case 0xc6: case 0xdb:
+    case 0xc6:
+    case 0xdb:
         return pass_sized(s, 4, 0);
-    case 0xc7: case 0xc8: case 0xc9:
+    case 0xc7:
+    case 0xc8:
+    case 0xc9:
         return pass_sized(s, (size_t)1 << (b - 0xc7), 1);
     case 0xca:
         return pass_bytes(s, 4);
     case 0xcb:
         return pass_bytes(s, 8);
-    case 0xcc: case 0xcd: case 0xce: case 0xcf:
+    case 0xcc:
+    case 0xcd:
+    case 0xce:
+    case 0xcf:
         return pass_bytes(s, (uint64_t)1 << (b - 0xcc));
-    case 0xd0: case 0xd1: case 0xd2: case 0xd3:
+    case 0xd0:
+    case 0xd1:
+    case 0xd2:
+    case 0xd3:
         return pass_bytes(s, (uint64_t)1 << (b - 0xd0));
-    case 0xd4: case 0xd5: case 0xd6: case 0xd7: case 0xd8:
+    case 0xd4:
+    case 0xd5:
+    case 0xd6:
+    case 0xd7:
+    case 0xd8:
         return pass_bytes(s, 1 + ((uint64_t)1 << (b - 0xd4)));
-    case 0xdc: case 0xdd:
+    case 0xdc:
+    case 0xdd:
         return pass_counted(s, b == 0xdc ? 2 : 4, 1, depth);
-    case 0xde: case 0xdf:
+    case 0xde:
+    case 0xdf:
         return pass_counted(s, b == 0xde ? 2 : 4, 2, depth);
     default:
         return false;
@@ -254,23 +273,27 @@ static size_t put_array_header(uint8_t *out, size_t n)
 
 struct operation {
     uint8_t mark;
-    struct integer field; /* as it was sent */
-    struct integer number; /* the argument of + - & ^ | # */
+    struct integer field;     /* as it was sent */
+    struct integer number;    /* the argument of + - & ^ | # */
     uint64_t position, count; /* of a splice */
-    struct span bytes; /* the argument of = and !, the content of a splice's */
+    struct span bytes;        /* the argument of = and !, the content of a splice's */
 };
 
 static bool take_argument(struct span *s, struct operation *o, uint64_t base)
 {
     uint64_t position;
     switch (o->mark) {
-    case '+': case '-':
+    case '+':
+    case '-':
         return take_integer(s, &o->number);
-    case '&': case '^': case '|':
+    case '&':
+    case '^':
+    case '|':
         return take_integer(s, &o->number) && !o->number.negative;
     case '#':
         return take_integer(s, &o->number) && !o->number.negative && o->number.low >= 1;
-    case '=': case '!':
+    case '=':
+    case '!':
         o->bytes.at = s->at;
         if (!pass_value(s, FIELD_DEPTH))
             return false;
@@ -518,7 +541,8 @@ static struct plain_answer refused(int number, size_t operation)
     return a;
 }
 
-static struct plain_answer run(struct span tuple, struct span list, uint64_t base, struct tuple *t, struct undo *u)
+static struct plain_answer run(struct span tuple, struct span list, uint64_t base, struct tuple *t,
+                               struct undo *u)
 {
     struct operation operations[MAX_OPERATIONS];
     uint8_t work[MAX_TUPLE];

@@ -1,6 +1,6 @@
 /*
- * Updating a tuple and undoing it in plain C, as one writes it by hand: what the library is compared with. The same
- * rules and the same refusal numbers; nothing is proved.
+ * Updating a tuple and undoing it in plain C, as one writes it by hand: what the library is compared with.
+ * The same rules and the same refusal numbers; nothing is proved.
  */
 #ifndef BENCH_PLAIN_UPDATE_H
 #define BENCH_PLAIN_UPDATE_H

@@ -205,7 +205,8 @@ void update_frame_sample(struct sample *s)
     end_frame(s);
 }
 
-/* Small tuples have six fields, others 48: a list of 64 then finds a field for each operation that needs one. */
+/* Small tuples have six fields, others 48: a list of 64 then finds a field for each operation that needs one.
+ */
 struct shape shape_of(size_t bytes)
 {
     struct shape shape = { 4, 2, 3 };
@@ -235,8 +236,8 @@ static void put_coming_or_going(struct sample *s, struct shape shape, size_t i)
 }
 
 /*
- * In turn + = ^ : - ! | #, each number and string touched once at most, since the server refuses to alter a field
- * twice; where they are used up, fields come and go.
+ * In turn + = ^ : - ! | #, each number and string touched once at most, since the server refuses to alter a
+ * field twice; where they are used up, fields come and go.
  */
 void list_sample(struct sample *s, struct shape shape, size_t operations)
 {

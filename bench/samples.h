@@ -13,16 +13,17 @@ struct sample {
 };
 
 /* Values, one after the other. */
-void select_sample(struct sample *s); /* the 32 bytes of a select: size, header, body */
-void answer_sample(struct sample *s, size_t tuples); /* an array of tuples of about 130 bytes */
-void strings_sample(struct sample *s, size_t strings); /* an array of strings of 253 bytes */
+void select_sample(struct sample *s);                    /* the 32 bytes of a select: size, header, body */
+void answer_sample(struct sample *s, size_t tuples);     /* an array of tuples of about 130 bytes */
+void strings_sample(struct sample *s, size_t strings);   /* an array of strings of 253 bytes */
 void integers_sample(struct sample *s, size_t integers); /* an array of integers of one byte */
-void nesting_sample(struct sample *s, size_t items, size_t depth); /* an array of items, as deep as that in all */
+void nesting_sample(struct sample *s, size_t items,
+                    size_t depth); /* an array of items, as deep as that in all */
 
 /* Whole frames. */
 void ok_frame_sample(struct sample *s, size_t tuples); /* an answer with that array as its data */
-void update_frame_sample(struct sample *s); /* a press: one bit of a record turned round */
-void deep_frame_sample(struct sample *s); /* with a value as deep as a frame's may be */
+void update_frame_sample(struct sample *s);            /* a press: one bit of a record turned round */
+void deep_frame_sample(struct sample *s);              /* with a value as deep as a frame's may be */
 
 /* Tuples and lists of operations. Fields are numbered from 1, as the server's own call numbers them. */
 enum { INDEX_BASE = 1 };
@@ -33,7 +34,7 @@ struct shape {
 struct shape shape_of(size_t bytes); /* of a tuple of about so many bytes */
 void tuple_sample(struct sample *s, struct shape shape);
 void list_sample(struct sample *s, struct shape shape, size_t operations);
-void deep_tuple_sample(struct sample *s, size_t bytes); /* with a field as deep as a field may be */
+void deep_tuple_sample(struct sample *s, size_t bytes);     /* with a field as deep as a field may be */
 void deep_list_sample(struct sample *s, size_t operations); /* its arguments as deep as that too */
 
 #endif

@@ -1,7 +1,8 @@
 /*
- * The server's own update on the same bytes, as a module that its Lua loads: the operations come as MessagePack, as they
- * do from the network, and no Lua runs inside the loop. It is not quite the same work: the tuple was checked when it was
- * made, `and new` does not check it either, and the answer is a tuple of the server's in its own memory.
+ * The server's own update on the same bytes, as a module that its Lua loads: the operations come as
+ * MessagePack, as they do from the network, and no Lua runs inside the loop. It is not quite the same work:
+ * the tuple was checked when it was made, `and new` does not check it either, and the answer is a tuple of
+ * the server's in its own memory.
  */
 #include <stdio.h>
 #include <string.h>

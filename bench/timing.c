@@ -25,7 +25,8 @@ static double round_ns(const struct contender *c, uint64_t calls)
     return took;
 }
 
-/* So many calls that a round lasts about ROUND_NS: short enough to pass between two interruptions. It warms up too. */
+/* So many calls that a round lasts about ROUND_NS: short enough to pass between two interruptions. It warms
+ * up too. */
 static void calibrate(struct contender *c)
 {
     uint64_t calls = 1;

@@ -11,7 +11,7 @@ typedef uint64_t (*bench_work)(void *input);
 struct contender {
     bench_work work; /* NULL: not there in this build */
     void *input;
-    double ns; /* the answer: per call, the least of the rounds */
+    double ns;      /* the answer: per call, the least of the rounds */
     uint64_t calls; /* of one round */
 };
 

@@ -8,7 +8,7 @@ enum { UPDATE_ROWS = 9 };
 
 struct server_times {
     size_t bytes, operations; /* of the tuple, about; of the list */
-    double update, made; /* ns: of the update alone, and with making the tuple first; 0: not measured */
+    double update, made;      /* ns: of the update alone, and with making the tuple first; 0: not measured */
 };
 
 void update_rows(struct server_times *rows);

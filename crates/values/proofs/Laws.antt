@@ -3,7 +3,7 @@ use mathlib.Core.Path.{_≡_, refl, sym, subst, ap, _∙_}
 use mathlib.Core.List.{List, [], _∷_}
 use mathlib.Core.Bool.{Bool, true, false, _&&_}
 use Prim.Native.Nat.{ℕ, zero, suc, _+_, _-_, _*_, _^_, _<_, _≤_}
-use native.Mathlib.Nat.{add-assoc, add-zero, mul-le-mul-left}
+use native.Mathlib.Nat.{add-assoc, add-zero, zero-add, mul-le-mul-left}
 use native.Mathlib.Numerals.{add-one}
 use native.Mathlib.Omega.{arith}
 use borrow.Author.Tests.{leb-true, leb-false, le-leb, lt-leb}
@@ -178,12 +178,21 @@ pub value-high : (s : Bytes) (at d : ℕ) → at < length s → 0xe0 ≤ getD s 
 unfolding formOf
 value-high s at d h k l = value-byte s at d Signed h (agree (λ b. Scalar Signed 0 0) formOf 0xe0 32 tt (getD s at 0) (omega arith) (omega arith))
 
+-- a scalar without length bytes
+pub value-fixed : (s : Bytes) (at d : ℕ) (k : Kind) (f : ℕ) → at < length s → Scalar k 0 f ≡ formOf (getD s at 0)
+    → shift at (value d (drop at s)) ≡ shift (at + 1) (payload f (drop (at + 1) s))
+unfolding number
+value-fixed s at d k f h e =
+    value-scalar s at d k 0 f h e
+    ∙ sized-is s (at + 1) 0 0 (λ n t. payload (n + f) t) (omega arith) refl
+    ∙ rw (add-zero, zero-add)
+
 -- a short string, by its first byte
 pub value-string : (s : Bytes) (at d : ℕ) → at < length s → 0xa0 ≤ getD s at 0 → getD s at 0 < 0xc0
-    → shift at (value d (drop at s)) ≡ shift (at + 1) (sized 0 (λ n t. payload (n + (getD s at 0 - 0xa0)) t) (drop (at + 1) s))
+    → shift at (value d (drop at s)) ≡ shift (at + 1) (payload (getD s at 0 - 0xa0) (drop (at + 1) s))
 unfolding formOf
 value-string s at d h k l =
-    value-scalar s at d String 0 (getD s at 0 - 0xa0) h
+    value-fixed s at d String (getD s at 0 - 0xa0) h
     (agree (λ b. Scalar String 0 (b - 0xa0)) formOf 0xa0 32 tt (getD s at 0) (omega arith) (omega arith))
 
 -- what is no scalar, by its first byte, is none that is whole
