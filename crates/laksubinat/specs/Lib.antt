@@ -1,0 +1,3 @@
+-- What C sees of the answers.
+pub mod Shown
+pub mod Examples

@@ -1,0 +1,143 @@
+// The calls for C and Rust, thin over the layers below: the C library `liblaksubinat.a`, whose
+// header is include/laksubinat.h. A slice is a pointer and a length in C; structs go by value.
+use frames::Frame;
+use frames::FrameAnswer;
+use meanings::Meaning;
+use scalars::Int;
+use tuples::Answer;
+ghost use mathlib.Core.Path.{_≡_};
+ghost use Rattle.meanings.specs.Meaning.{alone};
+ghost use Rattle.frames.specs.Reading.{frameRead};
+ghost use Rattle.frames.specs.Writing.{frameWriteCall};
+ghost use Rattle.tuples.specs.Call.{updateCall, undoCall};
+ghost use Rattle.answers.specs.Seen.{seen};
+ghost use Rattle.laksubinat.specs.Shown.{bit, held, placed, integerShown, meaningShown, shown, result};
+
+// The answer for a value read alone, as C sees it: 0 with its kind, length and content, or 4 and else 0.
+#[repr(C)]
+pub struct ValueAnswer {
+    pub number: u32,
+    pub kind: u32,
+    pub length: usize,
+    pub bits: u64,
+    pub start: usize,
+    pub size: usize,
+    pub ext_type: u8,
+}
+
+fn bit(b: bool) -> u64
+    ensures { λ r. ⌜ r ≡ bit b ⌝ }
+{
+    if b { 1 } else { 0 }
+}
+
+// A value that is told by its bits.
+fn held(number: u32, length: usize, kind: u32, bits: u64) -> ValueAnswer
+    ensures { λ r. ⌜ r ≡ held number length kind bits ⌝ }
+{
+    ValueAnswer {
+        number,
+        kind,
+        length,
+        bits,
+        start: 0,
+        size: 0,
+        ext_type: 0,
+    }
+}
+
+// A value that is told by the place of its content.
+fn placed(
+    number: u32,
+    length: usize,
+    kind: u32,
+    start: usize,
+    size: usize,
+    ext_type: u8,
+) -> ValueAnswer
+    ensures { λ r. ⌜ r ≡ placed number length kind start size «ext_type» ⌝ }
+{
+    ValueAnswer {
+        number,
+        kind,
+        length,
+        bits: 0,
+        start,
+        size,
+        ext_type,
+    }
+}
+
+fn integer_shown(number: u32, length: usize, z: Int) -> ValueAnswer
+    ensures { λ r. ⌜ r ≡ integerShown number length z ⌝ }
+{
+    match z {
+        Int::FromZero(n) => held(number, length, 2, n),
+        Int::BelowZero(m) => held(number, length, 3, 0xffff_ffff_ffff_ffff - m),
+    }
+}
+
+fn meaning_shown(number: u32, length: usize, meaning: Meaning) -> ValueAnswer
+    ensures { λ r. ⌜ r ≡ meaningShown number length meaning ⌝ }
+{
+    match meaning {
+        Meaning::Absent => held(number, length, 0, 0),
+        Meaning::Nil => held(number, length, 0, 0),
+        Meaning::Boolean(b) => held(number, length, 1, bit(b)),
+        Meaning::Integer(z) => integer_shown(number, length, z),
+        Meaning::Float32(_, bits) => held(number, length, 4, bits as u64),
+        Meaning::Float64(_, bits) => held(number, length, 5, bits),
+        Meaning::String(start, size) => placed(number, length, 6, start, size, 0),
+        Meaning::Bin(start, size) => placed(number, length, 7, start, size, 0),
+        Meaning::Ext(t, start, size) => placed(number, length, 8, start, size, t),
+        Meaning::Array(start, size) => placed(number, length, 9, start, size, 0),
+        Meaning::Map(start, size) => placed(number, length, 10, start, size, 0),
+    }
+}
+
+// The value at the front of `bytes`, held to depth 16; nothing past its end is judged.
+#[no_mangle]
+pub extern "C" fn lak_value_read(bytes: &[u8]) -> ValueAnswer
+    ensures { λ r. ⌜ r ≡ shown (alone (now (bytes .entry))) ⌝ }
+{
+    let read = meanings::read_alone(bytes);
+    let meaning = read.meaning;
+    meaning_shown(read.number, read.length, meaning)
+}
+
+// The first frame of `bytes`; what follows it is not judged.
+#[no_mangle]
+pub extern "C" fn lak_frame_read(bytes: &[u8]) -> FrameAnswer
+    ensures { λ r. ⌜ r ≡ frameRead (now (bytes .entry)) ⌝ }
+{
+    frame_reading::read_frame(bytes)
+}
+
+// The record's frame at the front of `out`, its values copied from `bytes`.
+#[no_mangle]
+pub extern "C" fn lak_frame_write(frame: Frame, bytes: &[u8], out: &mut [u8]) -> Answer
+    ensures { λ r. ⌜ seen r (now (out .exit)) ≡ result (frameWriteCall frame (now (bytes .entry)) (now (out .entry))) ⌝ }
+{
+    let written = frame_writing::write_frame(frame, bytes, out);
+    Answer {
+        number: written.number,
+        operation: 0,
+        length: written.length,
+    }
+}
+
+// The list's operations on the tuple; the new tuple into `out`.
+#[no_mangle]
+pub extern "C" fn lak_update(tuple: &[u8], list: &[u8], index_base: u64, out: &mut [u8]) -> Answer
+    ensures { λ r. ⌜ seen r (now (out .exit)) ≡ updateCall (now (tuple .entry)) (now (list .entry)) «index_base» (now (out .entry)) ⌝ }
+{
+    updates::update(tuple, list, index_base, out)
+}
+
+// What takes the list's operations on the tuple back; the undo list into `out`.
+#[no_mangle]
+pub extern "C" fn lak_undo(tuple: &[u8], list: &[u8], index_base: u64, out: &mut [u8]) -> Answer
+    ensures { λ r. ⌜ seen r (now (out .exit)) ≡ undoCall (now (tuple .entry)) (now (list .entry)) «index_base» (now (out .entry)) ⌝ }
+{
+    updates::undo(tuple, list, index_base, out)
+}
