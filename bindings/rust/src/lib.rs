@@ -110,9 +110,7 @@ pub fn read_frame(bytes: &[u8]) -> Result<(Frame, usize), Error> {
 /// ```
 pub fn write_frame(frame: &Frame, bytes: &[u8], out: &mut [u8]) -> Result<usize, Error> {
     // SAFETY: each pointer and length are those of a slice; the call stays within them, and `out` is lent to it alone.
-    written(unsafe {
-        raw::lak_frame_write((*frame).into(), bytes.as_ptr(), bytes.len(), out.as_mut_ptr(), out.len())
-    })
+    written(unsafe { raw::lak_frame_write((*frame).into(), bytes.as_ptr(), bytes.len(), out.as_mut_ptr(), out.len()) })
 }
 
 /// Writes the tuple that the list makes of a tuple; answers how many bytes were written, at most 16,384.
@@ -136,15 +134,7 @@ pub fn write_frame(frame: &Frame, bytes: &[u8], out: &mut [u8]) -> Result<usize,
 pub fn update(tuple: &[u8], list: &[u8], index_base: u64, out: &mut [u8]) -> Result<usize, Error> {
     // SAFETY: each pointer and length are those of a slice; the call stays within them, and `out` is lent to it alone.
     written(unsafe {
-        raw::lak_update(
-            tuple.as_ptr(),
-            tuple.len(),
-            list.as_ptr(),
-            list.len(),
-            index_base,
-            out.as_mut_ptr(),
-            out.len(),
-        )
+        raw::lak_update(tuple.as_ptr(), tuple.len(), list.as_ptr(), list.len(), index_base, out.as_mut_ptr(), out.len())
     })
 }
 
@@ -168,15 +158,7 @@ pub fn update(tuple: &[u8], list: &[u8], index_base: u64, out: &mut [u8]) -> Res
 pub fn undo(tuple: &[u8], list: &[u8], index_base: u64, out: &mut [u8]) -> Result<usize, Error> {
     // SAFETY: each pointer and length are those of a slice; the call stays within them, and `out` is lent to it alone.
     written(unsafe {
-        raw::lak_undo(
-            tuple.as_ptr(),
-            tuple.len(),
-            list.as_ptr(),
-            list.len(),
-            index_base,
-            out.as_mut_ptr(),
-            out.len(),
-        )
+        raw::lak_undo(tuple.as_ptr(), tuple.len(), list.as_ptr(), list.len(), index_base, out.as_mut_ptr(), out.len())
     })
 }
 

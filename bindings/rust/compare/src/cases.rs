@@ -42,6 +42,20 @@ pub struct Outcome {
 /// Bytes on each side of a lent buffer, which no call may touch.
 const GUARD: usize = 24;
 
+/// The longest room that a case may have.
+pub const MOST_ROOM: usize = 65_536;
+
+/// What lent buffers hold before a call: no two neighbours are equal.
+static PATTERN: [u8; MOST_ROOM + 2 * GUARD] = {
+    let mut pattern = [0; MOST_ROOM + 2 * GUARD];
+    let mut at = 0;
+    while at < pattern.len() {
+        pattern[at] = (at % 251) as u8 ^ 0x55;
+        at += 1;
+    }
+    pattern
+};
+
 impl Case {
     pub fn call(&self) -> usize {
         match self {
@@ -53,14 +67,14 @@ impl Case {
         }
     }
 
-    /// Makes the call, on a buffer filled with a pattern in which no two neighbours are equal.
+    /// Makes the call, on a buffer filled with the pattern.
     pub fn run(&self, calls: &dyn Calls) -> Outcome {
         let room = match self {
             Case::Value { .. } | Case::Read { .. } => 0,
             Case::Write { room, .. } => *room,
             Case::Update(change) | Case::Undo(change) => change.room,
         };
-        let mut buffer: Vec<u8> = (0..room + 2 * GUARD).map(|at| (at % 251) as u8 ^ 0x55).collect();
+        let mut buffer = PATTERN[..room + 2 * GUARD].to_vec();
         let out = &mut buffer[GUARD..GUARD + room];
         let reply = match self {
             Case::Value { bytes } => Reply::Value(calls.value_read(bytes)),
@@ -106,6 +120,12 @@ impl Outcome {
 
 pub fn hex(bytes: &[u8]) -> String {
     bytes.iter().map(|byte| format!("{byte:02x}")).collect()
+}
+
+/// The bytes that hexadecimal digits stand for, gaps passed over.
+pub fn unhex(digits: &str) -> Vec<u8> {
+    let digits: Vec<_> = digits.chars().filter_map(|digit| digit.to_digit(16)).collect();
+    digits.chunks(2).map(|pair| (pair[0] * 16 + pair[1]) as u8).collect()
 }
 
 impl fmt::Display for Change {

@@ -1,7 +1,7 @@
 //! The comparison: rounds of random cases, each made with the library in both its dresses and with the reference.
 
 use crate::calls::{Bindings, Calls, Interface, Reference};
-use crate::cases::{shrink, Case, Change, Outcome, Reply, CALLS};
+use crate::cases::{shrink, Case, Change, Outcome, Reply, CALLS, MOST_ROOM};
 use crate::generate::{changes, frames, room, values};
 use crate::random::Random;
 use crate::sequence;
@@ -72,7 +72,7 @@ impl<'a> Comparison<'a> {
 
     /// The same with a room near the length of what is to be written.
     pub fn roomy(&mut self, r: &mut Random, mut case: Case) -> Result<Outcome, Difference> {
-        let wide = with_room(&mut case, 65_536).run(&Reference).length();
+        let wide = with_room(&mut case, MOST_ROOM).run(&Reference).length();
         let room = room(r, wide);
         self.same(with_room(&mut case, room))
     }

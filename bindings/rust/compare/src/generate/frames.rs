@@ -189,10 +189,11 @@ pub fn record(r: &mut Random) -> Case {
     }
     for (key, place) in places(&mut frame) {
         let Some((_, holds)) = BODY.iter().find(|known| known.0 == key) else { continue };
-        let value = held_by_writer(r, *holds);
-        *place = raw::Place { present: wanted(r, key), start: bytes.len() as u64, length: value.len() as u64 };
+        let present = wanted(r, key);
+        let value = if present { held_by_writer(r, *holds) } else { vec![] };
+        *place = raw::Place { present, start: bytes.len() as u64, length: value.len() as u64 };
         bytes.extend(value);
-        if place.present && r.one_in(40) {
+        if r.one_in(40) {
             displace(r, place);
         }
     }

@@ -34,12 +34,12 @@ pub fn damage(r: &mut Random, bytes: &mut Vec<u8>) {
 
 /// A buffer's room for a result of this length: mostly one at which the answer turns.
 pub fn room(r: &mut Random, length: usize) -> usize {
-    match r.below(8) {
+    match r.below(12) {
         0 => length.saturating_sub(1),
         1 => r.below(length + 1),
         2 => 0,
-        3 | 4 => length,
-        5 => length + 1,
+        3..=6 => length,
+        7 => length + 1,
         _ => length + r.below(300),
     }
 }

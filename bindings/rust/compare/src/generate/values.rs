@@ -12,7 +12,11 @@ fn form(r: &mut Random, forms: Vec<Vec<u8>>) -> Vec<u8> {
 /// The forms that hold a number or length from 0 up: in the first byte itself, or in bytes after it.
 fn forms(n: usize, inside: Option<u8>, after: &[(u8, usize)]) -> Vec<Vec<u8>> {
     let after = after.iter().filter(|(_, width)| *width == 8 || n >> (8 * width) == 0);
-    inside.map(|first| vec![first]).into_iter().chain(after.map(|(first, width)| tagged(*first, n as i128, *width))).collect()
+    inside
+        .map(|first| vec![first])
+        .into_iter()
+        .chain(after.map(|(first, width)| tagged(*first, n as i128, *width)))
+        .collect()
 }
 
 fn unsigned_forms(n: u64) -> Vec<Vec<u8>> {
@@ -101,9 +105,9 @@ pub fn scalar(r: &mut Random, size: usize) -> Vec<u8> {
     }
 }
 
-/// A value at most so deep, of about this size.
+/// A value at most so deep, of about this size; the size left for each item also ends the nesting.
 pub fn value(r: &mut Random, depth: usize, size: usize) -> Vec<u8> {
-    if depth == 0 || !r.one_in(3) {
+    if depth == 0 || size < 2 || !r.one_in(3) {
         return scalar(r, size);
     }
     let count = if r.one_in(30) { r.within(14..=40) } else { r.below(6) };
