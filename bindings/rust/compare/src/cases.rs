@@ -14,6 +14,7 @@ pub struct Change {
 }
 
 #[derive(Clone)]
+#[allow(clippy::large_enum_variant)] // one lives at a time
 pub enum Case {
     Value { bytes: Vec<u8> },
     Read { bytes: Vec<u8> },
@@ -26,6 +27,7 @@ pub enum Case {
 pub const CALLS: [&str; 5] = ["value_read", "frame_read", "frame_write", "update", "undo"];
 
 #[derive(Clone, Debug, PartialEq)]
+#[allow(clippy::large_enum_variant)] // one lives at a time
 pub enum Reply {
     Value(ValueAnswer),
     Read(FrameAnswer),

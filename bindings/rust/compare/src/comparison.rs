@@ -1,6 +1,6 @@
 //! The comparison: rounds of random cases, each made with the library in both its dresses and with the reference.
 
-use crate::calls::{Bindings, Calls, Interface, Reference};
+use crate::calls::{self, Bindings, Calls, Interface, Reference};
 use crate::cases::{shrink, Case, Change, Outcome, Reply, CALLS, MOST_ROOM};
 use crate::generate::{changes, frames, room, values};
 use crate::random::Random;
@@ -87,7 +87,7 @@ impl<'a> Comparison<'a> {
         let Case::Write { frame, bytes, .. } = case else { return Ok(()) };
         let written = outcome.written().to_vec();
         let Reply::Read(read) = self.same(&Case::Read { bytes: written.clone() })?.reply else { return Ok(()) };
-        if read.number != 0 || seen(read.frame, &written) != seen(frame, &bytes) {
+        if read.number != 0 || Seen::of(read.frame, &written) != Seen::of(frame, &bytes) {
             return Err(Difference(format!("read back otherwise than written: {read:?}\nwritten from {frame:?}")));
         }
         let again = self.same(&Case::Write { frame: read.frame, bytes: written.clone(), room: written.len() })?;
@@ -107,11 +107,22 @@ impl<'a> Comparison<'a> {
 }
 
 /// What a record shows: its numbers, and the bytes of each view. Absent ones show nothing, whatever they hold.
-fn seen(mut frame: raw::Frame, bytes: &[u8]) -> (u64, Vec<Option<u64>>, Vec<Option<Vec<u8>>>) {
-    let numbers = crate::calls::numbers(&mut frame).map(|(_, number)| (*number).into()).to_vec();
-    let view = |place: raw::Place| bytes[place.start as usize..(place.start + place.length) as usize].to_vec();
-    let views = crate::calls::places(&mut frame).map(|(_, place)| place.present.then(|| view(*place))).to_vec();
-    (frame.code, numbers, views)
+#[derive(PartialEq)]
+struct Seen {
+    code: u64,
+    numbers: Vec<Option<u64>>,
+    views: Vec<Option<Vec<u8>>>,
+}
+
+impl Seen {
+    fn of(mut frame: raw::Frame, bytes: &[u8]) -> Seen {
+        let view = |place: raw::Place| bytes[place.start as usize..(place.start + place.length) as usize].to_vec();
+        Seen {
+            code: frame.code,
+            numbers: calls::numbers(&mut frame).map(|(_, number)| (*number).into()).to_vec(),
+            views: calls::places(&mut frame).map(|(_, place)| place.present.then(|| view(*place))).to_vec(),
+        }
+    }
 }
 
 fn with_room(case: &mut Case, wanted: usize) -> &Case {

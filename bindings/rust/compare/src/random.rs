@@ -8,10 +8,10 @@ impl Random {
     /// The generator of one round of a run.
     pub fn of_round(seed: u64, round: u64) -> Random {
         let mut random = Random(seed);
-        Random(random.next() ^ round.wrapping_mul(0xd134_2543_de82_ef95))
+        Random(random.word() ^ round.wrapping_mul(0xd134_2543_de82_ef95))
     }
 
-    pub fn next(&mut self) -> u64 {
+    pub fn word(&mut self) -> u64 {
         self.0 = self.0.wrapping_add(0x9e37_79b9_7f4a_7c15);
         let mut z = self.0;
         z = (z ^ (z >> 30)).wrapping_mul(0xbf58_476d_1ce4_e5b9);
@@ -21,7 +21,7 @@ impl Random {
 
     pub fn within(&mut self, range: RangeInclusive<usize>) -> usize {
         let count = (range.end() - range.start()) as u128 + 1;
-        range.start() + ((u128::from(self.next()) * count) >> 64) as usize
+        range.start() + ((u128::from(self.word()) * count) >> 64) as usize
     }
 
     /// A number below `n`; 0 where there is none.
@@ -38,7 +38,7 @@ impl Random {
     }
 
     pub fn bytes(&mut self, n: usize) -> Vec<u8> {
-        let mut bytes: Vec<u8> = (0..n.div_ceil(8)).flat_map(|_| self.next().to_le_bytes()).collect();
+        let mut bytes: Vec<u8> = (0..n.div_ceil(8)).flat_map(|_| self.word().to_le_bytes()).collect();
         bytes.truncate(n);
         bytes
     }

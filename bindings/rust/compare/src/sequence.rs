@@ -2,7 +2,7 @@
 
 use crate::cases::{Case, Change, Outcome};
 use crate::comparison::{Comparison, Difference};
-use crate::generate::{changes, room};
+use crate::generate::{changes, damage, room};
 use crate::random::Random;
 use crate::reference::updates;
 use std::fmt;
@@ -36,34 +36,49 @@ struct Laid {
 }
 
 /// A sequence from a random tuple: mostly updates, mostly takings back, or both in any order.
-pub fn run(r: &mut Random, comparison: &mut Comparison) -> Result<(), Difference> {
-    let mut tuple = changes::tuple(r);
-    if updates::fields(&tuple).is_none() {
+pub fn run(r: &mut Random, c: &mut Comparison) -> Result<(), Difference> {
+    let first = changes::change(r);
+    if updates::fields(&first.tuple).is_none() {
         return Ok(());
     }
-    comparison.sequences.sequences += 1;
-    let mut pile = Vec::new();
+    c.sequences.sequences += 1;
+    let (mut tuple, mut pile) = (first.tuple.clone(), Vec::new());
+    update(r, c, first, &mut tuple, &mut pile)?;
     let takes_back = r.within(1..=9);
     for _ in 0..r.below(24) {
         if r.below(10) < takes_back {
-            take_back(r, comparison, &mut tuple, &mut pile)?;
+            take_back(r, c, &mut tuple, &mut pile)?;
         } else {
-            update(r, comparison, &mut tuple, &mut pile)?;
+            let change = next_change(r, &tuple);
+            update(r, c, change, &mut tuple, &mut pile)?;
         }
-        comparison.sequences.highest_pile = comparison.sequences.highest_pile.max(pile.len());
+        c.sequences.highest_pile = c.sequences.highest_pile.max(pile.len());
     }
     for _ in 0..pile.len() {
-        take_back(r, comparison, &mut tuple, &mut pile)?;
+        take_back(r, c, &mut tuple, &mut pile)?;
     }
     Ok(())
 }
 
-fn update(r: &mut Random, c: &mut Comparison, tuple: &mut Vec<u8>, pile: &mut Vec<Laid>) -> Result<(), Difference> {
-    let base = r.below(2) as u64;
-    let change = Change { list: changes::list(r, tuple, base), tuple: tuple.clone(), base, room: 0 };
+fn next_change(r: &mut Random, tuple: &[u8]) -> Change {
+    let base = changes::base(r);
+    let mut list = changes::list(r, tuple, base);
+    if r.one_in(20) {
+        damage(r, &mut list);
+    }
+    Change { tuple: tuple.to_vec(), list, base, room: 0 }
+}
+
+fn update(
+    r: &mut Random,
+    c: &mut Comparison,
+    change: Change,
+    tuple: &mut Vec<u8>,
+    pile: &mut Vec<Laid>,
+) -> Result<(), Difference> {
     let answer = c.roomy(r, Case::Update(change.clone()))?;
-    let undo = updates::undo(tuple, &change.list, base);
     c.roomy(r, Case::Undo(change.clone()))?;
+    let undo = updates::undo(tuple, &change.list, change.base);
     let (0, Ok(list)) = (answer.number(), undo) else {
         c.sequences.stayed_out += 1;
         return Ok(());

@@ -37,7 +37,7 @@ fn fields(r: &mut Random, count: usize) -> Fields {
 }
 
 /// A tuple of any length; its array header in any form.
-pub fn tuple(r: &mut Random) -> Vec<u8> {
+fn tuple(r: &mut Random) -> Vec<u8> {
     let count = match r.below(12) {
         0 => about(r, MOST_FIELDS),
         1 => r.within(13..=18),
@@ -124,7 +124,7 @@ fn operation(r: &mut Random, fields: &Fields, base: u64) -> Vec<u8> {
         _ => parts.push(argument(r, mark)),
     }
     match r.below(400) {
-        0 => parts[0] = vec![0xa1, r.next() as u8],
+        0 => parts[0] = vec![0xa1, r.word() as u8],
         1 => parts[0] = vec![0xd9, 0x01, mark],
         2 => parts[0] = values::value(r, 1, 3),
         3 => parts[1] = values::value(r, 1, 3),
@@ -162,7 +162,8 @@ pub fn list(r: &mut Random, tuple: &[u8], base: u64) -> Vec<u8> {
     values::array(r, &operations)
 }
 
-fn base(r: &mut Random) -> u64 {
+/// An index base, seldom a wrong one.
+pub fn base(r: &mut Random) -> u64 {
     match r.below(60) {
         0 => 2,
         1 => *r.pick(&[u64::MAX, 256, 1 << 32]),
@@ -170,27 +171,29 @@ fn base(r: &mut Random) -> u64 {
     }
 }
 
+/// The bytes of an operation of three before its argument: array header, mark and field number.
+const BEFORE: usize = 4;
+
 fn three(mark: u8, f: usize, argument: &[u8]) -> Vec<u8> {
     meant::array(&[&meant::string(&[mark]), &meant::integer(f as i128), argument])
 }
 
+/// The length of the shortest array header.
+fn header_length(count: usize) -> usize {
+    meant::array(&vec![[]; count]).len()
+}
+
 /// A list of about as many bytes as are allowed: assignments to one field, the last filled up.
 fn long_list(r: &mut Random) -> Change {
-    let bytes = about(r, MOST_LIST_BYTES);
-    let tuple = vec![0x91, 0x01];
+    let count = r.within(3..=20);
+    let mut left = about(r, MOST_LIST_BYTES) - header_length(count) - count * BEFORE;
     let mut operations = Vec::new();
-    let mut left = bytes - 1;
-    while left > 16_000 {
-        let size = r.within(1..=15_000);
+    for after in (0..count).rev() {
+        let size = if after == 0 { left } else { left / (after + 1) - r.below(50) };
         operations.push(three(b'=', 0, &values::sized(r, size)));
-        left = (bytes - 3).saturating_sub(operations.concat().len());
-        if operations.len() < 15 {
-            left += 2;
-        }
+        left -= size;
     }
-    let last = values::sized(r, left.saturating_sub(5));
-    operations.push(three(b'=', 0, &last));
-    Change { tuple, list: meant::array(&operations), base: 0, room: 0 }
+    Change { tuple: vec![0x91, 0x01], list: meant::array(&operations), base: 0, room: 0 }
 }
 
 /// An undo list of about as many operations as are allowed: all fields removed, then some put back.
@@ -209,12 +212,10 @@ fn many_undone(r: &mut Random) -> Change {
 fn long_undone(r: &mut Random) -> Change {
     let splices = r.within(2..=MOST_OPERATIONS - 2);
     let bytes = about(r, MOST_LIST_BYTES);
-    let header = if splices + 1 < 16 { 1 } else { 3 };
-    // Each of the undo list's operations has five bytes before the old field.
-    let each = (bytes - header - 6) / splices - 5;
-    let text = values::sized(r, each);
-    let text = [if text[0] == 0xc4 { vec![0xd9] } else { vec![0xda] }, text[1..].to_vec()].concat();
-    let old = values::sized(r, bytes - header - splices * (each + 5) - 5);
+    let header = header_length(splices + 1);
+    let each = (bytes - header - BEFORE - 1) / splices - BEFORE;
+    let text = [vec![0xda], values::sized(r, each)[1..].to_vec()].concat();
+    let old = values::sized(r, bytes - header - splices * (each + BEFORE) - BEFORE);
     let tuple = meant::array(&[text, old]);
     let still = meant::array(&[vec![0xa1, b':'], vec![0x00], vec![0x00], vec![0x00], vec![0xa0]]);
     let mut operations = vec![still; splices];

@@ -4,7 +4,7 @@ use super::values;
 use crate::calls::{numbers, places};
 use crate::cases::Case;
 use crate::random::Random;
-use crate::reference::frames::{required, Holds, BODY, HEADER};
+use crate::reference::frames::{read, required, Holds, BODY, HEADER};
 use laksubinat::raw;
 
 const CODES: [u64; 12] = [0, 1, 2, 3, 4, 5, 6, 7, 8, 9, 10, 0x40];
@@ -25,7 +25,7 @@ fn near(r: &mut Random, most: u64) -> u64 {
         0 => most,
         1 => most.saturating_add(1),
         2 => values::number(r) as u64,
-        _ => r.next() & most & 0xffff,
+        _ => r.word() & most & 0xffff,
     }
 }
 
@@ -139,10 +139,34 @@ fn contents(r: &mut Random) -> Vec<u8> {
     bytes
 }
 
+/// Frames that a server and its client exchanged.
+const RECORDED: [&[u8]; 2] = [
+    include_bytes!("../../../../../tests/model/data/requests.bin"),
+    include_bytes!("../../../../../tests/model/data/responses.bin"),
+];
+
+/// One of the recorded frames, and those after it.
+fn recorded(r: &mut Random) -> Vec<u8> {
+    let mut bytes = *r.pick(&RECORDED);
+    for _ in 0..r.below(30) {
+        match read(bytes) {
+            Ok((_, length)) if length < bytes.len() => bytes = &bytes[length..],
+            _ => break,
+        }
+    }
+    bytes.to_vec()
+}
+
 /// Bytes for reading a frame: the size mostly right, bytes after the frame, cuts and damage.
 pub fn lent(r: &mut Random) -> Vec<u8> {
-    if r.one_in(12) {
-        return sizes(r);
+    match r.below(24) {
+        0 | 1 => return sizes(r),
+        2 => {
+            let mut bytes = recorded(r);
+            super::damage(r, &mut bytes);
+            return bytes;
+        }
+        _ => {}
     }
     let contents = contents(r);
     let size = match r.below(30) {

@@ -26,7 +26,7 @@ pub fn damage(r: &mut Random, bytes: &mut Vec<u8>) {
             4 => bytes.extend_from_within(at..end),
             _ if bytes.is_empty() => bytes.push(*r.pick(&TELLING)),
             5 => bytes[at] ^= 1 << r.below(8),
-            6 => bytes[at] = r.next() as u8,
+            6 => bytes[at] = r.word() as u8,
             _ => bytes[at] = *r.pick(&TELLING),
         }
     }

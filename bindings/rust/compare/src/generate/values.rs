@@ -43,14 +43,17 @@ pub fn integer(r: &mut Random, n: i128) -> Vec<u8> {
     form(r, all)
 }
 
-/// An integer near a power of two, in the integers' whole range.
+/// An integer near a power of two or an end of the integers' range.
 pub fn number(r: &mut Random) -> i128 {
+    if r.one_in(8) {
+        return *r.pick(&[-(1 << 63), 1 - (1 << 63), -1, 0, 1 << 63, (1 << 64) - 2, (1 << 64) - 1]);
+    }
     let power = 1i128 << r.within(0..=64);
     let n = match r.below(4) {
         0 => power,
         1 => power - 1,
         2 => power + 1,
-        _ => i128::from(r.next()) % power,
+        _ => i128::from(r.word()) % power,
     };
     if r.one_in(3) { -n } else { n }.clamp(-(1 << 63), (1 << 64) - 1)
 }
@@ -70,7 +73,7 @@ fn ext(r: &mut Random, content: &[u8]) -> Vec<u8> {
     let n = content.len();
     let inside = n.is_power_of_two().then(|| 0xd4 + n.trailing_zeros() as u8).filter(|first| *first <= 0xd8);
     let header = form(r, forms(n, inside, &[(0xc7, 1), (0xc8, 2), (0xc9, 4)]));
-    [&header[..], &[r.next() as u8], content].concat()
+    [&header[..], &[r.word() as u8], content].concat()
 }
 
 pub fn array_header(r: &mut Random, n: usize) -> Vec<u8> {
@@ -93,7 +96,7 @@ pub fn scalar(r: &mut Random, size: usize) -> Vec<u8> {
     match r.below(10) {
         0 => vec![0xc0],
         1 => vec![*r.pick(&[0xc2, 0xc3])],
-        2 => tagged(0xca, r.next().into(), 4),
+        2 => tagged(0xca, r.word().into(), 4),
         3 => tagged(0xcb, *r.pick(&[0x7ff8_0000_0000_0001, 0xfff0_0000_0000_0000, 0x7ff0_0000_0000_0001]), 8),
         4 | 5 => string(r, &content),
         6 => bin(r, &content),
@@ -180,8 +183,8 @@ pub fn lent(r: &mut Random) -> Vec<u8> {
 
 /// A first byte of any kind, a length or count, and about as many bytes as it promises.
 fn promising(r: &mut Random) -> Vec<u8> {
-    let mut bytes = vec![r.next() as u8];
-    let length = if r.one_in(4) { r.next() >> r.below(64) } else { r.below(20) as u64 };
+    let mut bytes = vec![r.word() as u8];
+    let length = if r.one_in(4) { r.word() >> r.below(64) } else { r.below(20) as u64 };
     let width = *r.pick(&[0, 1, 2, 4, 8]);
     bytes.extend(&length.to_be_bytes()[8 - width..]);
     let content = (length as usize % 600 + r.below(5)).saturating_sub(2);

@@ -160,7 +160,7 @@ pub fn tagged(first: u8, number: i128, width: usize) -> Vec<u8> {
 /// The shortest form of an integer: unsigned forms from 0 up, signed forms below 0.
 pub fn integer(n: i128) -> Vec<u8> {
     match n {
-        0..=0x7f | -0x20..=-1 => vec![n as u8],
+        -0x20..=0x7f => vec![n as u8],
         0x80..=0xff => tagged(0xcc, n, 1),
         0x100..=0xffff => tagged(0xcd, n, 2),
         0x1_0000..=0xffff_ffff => tagged(0xce, n, 4),
