@@ -35,80 +35,56 @@ struct Laid {
     plain: Vec<u8>,
 }
 
-/// A sequence from a random tuple: mostly updates, mostly takings back, or both in any order.
-pub fn run(r: &mut Random, c: &mut Comparison) -> Result<(), Difference> {
-    let first = changes::change(r);
-    if updates::fields(&first.tuple).is_none() {
-        return Ok(());
+pub struct Sequence {
+    tuple: Vec<u8>,
+    pile: Vec<Laid>,
+}
+
+impl Sequence {
+    /// A sequence's start: any tuple that 11 does not refuse, and an empty pile.
+    pub fn from(tuple: &[u8], c: &mut Comparison) -> Option<Sequence> {
+        updates::fields(tuple)?;
+        c.sequences.sequences += 1;
+        Some(Sequence { tuple: tuple.to_vec(), pile: Vec::new() })
     }
-    c.sequences.sequences += 1;
-    let (mut tuple, mut pile) = (first.tuple.clone(), Vec::new());
-    update(r, c, first, &mut tuple, &mut pile)?;
-    let takes_back = r.within(1..=9);
-    for _ in 0..r.below(24) {
-        if r.below(10) < takes_back {
-            take_back(r, c, &mut tuple, &mut pile)?;
-        } else {
-            let change = next_change(r, &tuple);
-            update(r, c, change, &mut tuple, &mut pile)?;
+
+    /// An update of the sequence's tuple. It goes in where it answers 0 and its undo list is within the limits.
+    pub fn update(&mut self, c: &mut Comparison, list: &[u8], base: u64, room: usize) -> Result<(), Difference> {
+        let change = Change { tuple: self.tuple.clone(), list: list.to_vec(), base, room };
+        let answer = c.same(&Case::Update(change.clone()))?;
+        let (0, Ok(list)) = (answer.number(), updates::undo(&self.tuple, list, base)) else {
+            c.sequences.stayed_out += 1;
+            return Ok(());
+        };
+        // The claim on the undo call of an update that went in, with just enough room.
+        let undone = c.same(&Case::Undo(Change { room: list.len(), ..change.clone() }))?;
+        hold(undone.number() == 0 && undone.written() == list, "the undo call wrote another list", &change, &undone)?;
+        let fields = updates::fields(&self.tuple).expect("the sequence's tuple is one");
+        self.pile.push(Laid { list, plain: updates::plain(&fields) });
+        self.tuple = answer.written().to_vec();
+        c.sequences.went_in += 1;
+        c.sequences.highest_pile = c.sequences.highest_pile.max(self.pile.len());
+        Ok(())
+    }
+
+    /// A taking back by the pile's top list, with a room chosen for the length of the plain form. With enough room it
+    /// answers 0 and writes exactly that form.
+    pub fn take_back(&mut self, c: &mut Comparison, room: impl FnOnce(usize) -> usize) -> Result<(), Difference> {
+        let Some(top) = self.pile.last() else { return Ok(()) };
+        let room = room(top.plain.len());
+        let change = Change { tuple: self.tuple.clone(), list: top.list.clone(), base: 0, room };
+        let answer = c.same(&Case::Update(change.clone()))?;
+        let is_back = answer.number() == 0 && answer.written() == top.plain;
+        hold(is_back || room < top.plain.len(), "a taking back did not give the plain form", &change, &answer)?;
+        if answer.number() != 0 {
+            c.sequences.refused_back += 1;
+            return Ok(());
         }
-        c.sequences.highest_pile = c.sequences.highest_pile.max(pile.len());
+        self.tuple = answer.written().to_vec();
+        self.pile.pop();
+        c.sequences.taken_back += 1;
+        Ok(())
     }
-    for _ in 0..pile.len() {
-        take_back(r, c, &mut tuple, &mut pile)?;
-    }
-    Ok(())
-}
-
-fn next_change(r: &mut Random, tuple: &[u8]) -> Change {
-    let base = changes::base(r);
-    let mut list = changes::list(r, tuple, base);
-    if r.one_in(20) {
-        damage(r, &mut list);
-    }
-    Change { tuple: tuple.to_vec(), list, base, room: 0 }
-}
-
-fn update(
-    r: &mut Random,
-    c: &mut Comparison,
-    change: Change,
-    tuple: &mut Vec<u8>,
-    pile: &mut Vec<Laid>,
-) -> Result<(), Difference> {
-    let answer = c.roomy(r, Case::Update(change.clone()))?;
-    c.roomy(r, Case::Undo(change.clone()))?;
-    let undo = updates::undo(tuple, &change.list, change.base);
-    let (0, Ok(list)) = (answer.number(), undo) else {
-        c.sequences.stayed_out += 1;
-        return Ok(());
-    };
-    // The claim on the undo call of an update that went in, with just enough room and with more.
-    let room = list.len() + r.below(40) * r.below(2);
-    let undone = c.same(&Case::Undo(Change { room, ..change.clone() }))?;
-    hold(undone.number() == 0 && undone.written() == list, "the undo call wrote another list", &change, &undone)?;
-    let fields = updates::fields(tuple).expect("the sequence's tuple is one");
-    pile.push(Laid { list, plain: updates::plain(&fields) });
-    *tuple = answer.written().to_vec();
-    c.sequences.went_in += 1;
-    Ok(())
-}
-
-fn take_back(r: &mut Random, c: &mut Comparison, tuple: &mut Vec<u8>, pile: &mut Vec<Laid>) -> Result<(), Difference> {
-    let Some(top) = pile.last() else { return Ok(()) };
-    let room = room(r, top.plain.len());
-    let change = Change { tuple: tuple.clone(), list: top.list.clone(), base: 0, room };
-    let answer = c.same(&Case::Update(change.clone()))?;
-    let is_back = answer.number() == 0 && answer.written() == top.plain;
-    hold(is_back || room < top.plain.len(), "a taking back did not give the plain form", &change, &answer)?;
-    if answer.number() != 0 {
-        c.sequences.refused_back += 1;
-        return Ok(());
-    }
-    *tuple = answer.written().to_vec();
-    pile.pop();
-    c.sequences.taken_back += 1;
-    Ok(())
 }
 
 fn hold(claim: bool, words: &str, change: &Change, outcome: &Outcome) -> Result<(), Difference> {
@@ -116,4 +92,33 @@ fn hold(claim: bool, words: &str, change: &Change, outcome: &Outcome) -> Result<
         true => Ok(()),
         false => Err(Difference(format!("{words}\n{change}\n{outcome}"))),
     }
+}
+
+/// A random sequence: mostly updates, mostly takings back, or both in any order; then as many takings back as are left.
+pub fn run(r: &mut Random, c: &mut Comparison) -> Result<(), Difference> {
+    let Change { tuple, list, base, .. } = changes::change(r);
+    let Some(mut sequence) = Sequence::from(&tuple, c) else { return Ok(()) };
+    update(r, c, &mut sequence, &list, base)?;
+    let takes_back = r.within(1..=9);
+    for _ in 0..r.below(24) {
+        if r.below(10) < takes_back {
+            sequence.take_back(c, |length| room(r, length))?;
+            continue;
+        }
+        let base = changes::base(r);
+        let mut list = changes::list(r, &sequence.tuple, base);
+        if r.one_in(20) {
+            damage(r, &mut list);
+        }
+        update(r, c, &mut sequence, &list, base)?;
+    }
+    for _ in 0..sequence.pile.len() {
+        sequence.take_back(c, |length| room(r, length))?;
+    }
+    Ok(())
+}
+
+fn update(r: &mut Random, c: &mut Comparison, s: &mut Sequence, list: &[u8], base: u64) -> Result<(), Difference> {
+    let length = updates::update(&s.tuple, list, base).map_or(0, |bytes| bytes.len());
+    s.update(c, list, base, room(r, length))
 }

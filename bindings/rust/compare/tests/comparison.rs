@@ -1,6 +1,6 @@
 //! A short comparison with the library; and impostors, which the comparison must find out.
 
-use compare::calls::{Calls, Interface, Reference};
+use compare::calls::{Calls, Reference};
 use compare::comparison::Comparison;
 use laksubinat::raw::{self, Answer, FrameAnswer, ValueAnswer};
 
@@ -76,11 +76,4 @@ fn a_byte_past_the_length_or_under_a_refusal_is_seen() {
         answer
     };
     assert!(is_found_out(Impostor { on_write: refused, ..HONEST }));
-}
-
-#[test]
-fn no_bytes_need_no_address() {
-    let empty: &[u8] = &[];
-    assert_eq!(Interface.value_read(empty).number, 4);
-    assert_eq!(Interface.update(empty, empty, 0, &mut []).number, 11);
 }

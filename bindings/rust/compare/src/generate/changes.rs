@@ -83,19 +83,26 @@ fn field_number(r: &mut Random, fields: &Fields, mark: u8) -> i128 {
     }
 }
 
-/// An argument that suits the mark, now and then any value.
-fn argument(r: &mut Random, mark: u8) -> Vec<u8> {
-    let n = match (mark, r.below(40)) {
-        (_, 0) => return values::value(r, 3, 10),
-        (b'=' | b'!', _) => return field(r),
-        (b'+' | b'-', 1..=20) => r.below(300) as i128 - 150,
-        (b'#', 1) => 0,
-        (b'#', 2..=30) => r.within(1..=4) as i128,
-        (_, 2) => values::number(r),
-        (_, 3) => -1,
-        _ => values::number(r).abs().min((1 << 64) - 1),
+/// An argument that suits the mark, now and then any value. Sums and differences mostly come near a number's border.
+fn argument(r: &mut Random, mark: u8, field: Option<i128>) -> Vec<u8> {
+    let border = values::number(r) + r.below(3) as i128 - 1;
+    let n = match (mark, r.below(40), field) {
+        (_, 0, _) => return values::value(r, 3, 10),
+        (b'=' | b'!', ..) => return self::field(r),
+        (b'+', 1..=25, Some(field)) => border - field,
+        (b'-', 1..=25, Some(field)) => field - border,
+        (b'^', 1..=25, Some(field)) => border ^ field,
+        (b'#', 1, _) => 0,
+        (b'#', 2..=30, _) => r.within(1..=4) as i128,
+        (_, 2, _) => border,
+        (_, 3, _) => -1,
+        _ => border.abs(),
     };
-    values::integer(r, n)
+    values::integer(r, in_range(n))
+}
+
+fn in_range(n: i128) -> i128 {
+    n.clamp(-(1 << 63), (1 << 64) - 1)
 }
 
 /// Position, count and argument of a splice.
@@ -117,11 +124,12 @@ fn splice(r: &mut Random, base: u64) -> Vec<Vec<u8>> {
 /// One operation for these fields, in any form; now and then one of a wrong shape.
 fn operation(r: &mut Random, fields: &Fields, base: u64) -> Vec<u8> {
     let mark = *r.pick(MARKS);
-    let f = field_number(r, fields, mark) + i128::from(base.min(1));
-    let mut parts = vec![vec![0xa1, mark], values::integer(r, f.clamp(-(1 << 63), (1 << 64) - 1))];
+    let f = field_number(r, fields, mark);
+    let field = usize::try_from(f).ok().and_then(|f| meant::whole(fields.get(f)?, DEPTH)?.integer());
+    let mut parts = vec![vec![0xa1, mark], values::integer(r, in_range(f + i128::from(base.min(1))))];
     match mark {
         b':' => parts.extend(splice(r, base.min(1))),
-        _ => parts.push(argument(r, mark)),
+        _ => parts.push(argument(r, mark, field)),
     }
     match r.below(400) {
         0 => parts[0] = vec![0xa1, r.word() as u8],
