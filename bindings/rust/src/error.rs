@@ -6,7 +6,7 @@ use std::fmt;
 /// let error = laksubinat::read_frame(&[0xe0]).unwrap_err();
 /// assert_eq!(error.number(), 2);
 /// assert_eq!(error.operation(), None);
-/// assert_eq!(error.to_string(), "refused with 2: the first byte starts no unsigned number");
+/// assert_eq!(error.to_string(), "refused with 2: the first byte starts no size number");
 /// ```
 #[derive(Clone, Copy, Debug, PartialEq, Eq, Hash)]
 pub struct Error {
@@ -14,25 +14,25 @@ pub struct Error {
     operation: u32,
 }
 
-/// The words of refusals 1 to 18, in order.
+/// The words of refusals 1 to 18, in order: those of `lak_words` in the C header.
 const WORDS: [&str; 18] = [
-    "the size number, or the bytes it promises, have not all come",
-    "the first byte starts no unsigned number",
-    "size is 0 or above 60,000",
-    "header, body or a value read alone is broken, runs past its bytes, or is too deep",
+    "the frame has not all come",
+    "the first byte starts no size number",
+    "the size is 0 or above 60,000",
+    "a value is broken, runs past its bytes or is too deep",
     "bytes remain after the body",
     "header or body is not a map, or a key is not 0 to 127",
     "a key stands twice",
     "the code is absent, not unsigned or unknown",
     "a known key holds a wrong type or range",
-    "a required body key is absent",
-    "tuple outside the rules",
-    "list outside the rules, or index base not 0 or 1",
-    "field number below the first field or past what the operation allows",
-    "the field's type or sign does not suit",
-    "sum or difference out of range",
-    "more than 64 fields, or more than 16,384 bytes, after an operation",
-    "undo list above 64 operations or 32,768 bytes",
+    "a required key of the body is absent",
+    "the tuple is outside the rules",
+    "the list of operations is outside the rules",
+    "there is no such field",
+    "the field's type or sign does not suit the operation",
+    "the sum or difference is out of range",
+    "more than 64 fields or 16,384 bytes after an operation",
+    "the undo list is above 64 operations or 32,768 bytes",
     "the lent buffer is too short",
 ];
 
@@ -53,7 +53,7 @@ impl Error {
 
     /// What the number says.
     pub fn words(&self) -> &'static str {
-        (self.number as usize).checked_sub(1).and_then(|row| WORDS.get(row)).copied().unwrap_or("unknown refusal")
+        (self.number as usize).checked_sub(1).and_then(|row| WORDS.get(row)).copied().unwrap_or("no such number")
     }
 }
 

@@ -12,14 +12,14 @@
 //! let tuple = [0x93, 0x05, 0xa2, b'a', b'b', 0xc3]; // [5, "ab", true]
 //! let press = [0x91, 0x93, 0xa1, b'^', 0x00, 0x01]; // [["^", 0, 1]]
 //!
-//! let mut after = [0; 16_384];
-//! let mut back = [0; 32_768];
+//! let mut after = [0; laksubinat::TUPLE_ROOM];
+//! let mut back = [0; laksubinat::UNDO_ROOM];
 //! let n = laksubinat::update(&tuple, &press, 0, &mut after)?;
 //! let m = laksubinat::undo(&tuple, &press, 0, &mut back)?;
 //! assert_eq!(after[..n], [0x93, 0x04, 0xa2, b'a', b'b', 0xc3]);
 //! assert_eq!(back[..m], [0x91, 0x93, 0xa1, b'=', 0x00, 0x05]);
 //!
-//! let mut again = [0; 16_384];
+//! let mut again = [0; laksubinat::TUPLE_ROOM];
 //! let n = laksubinat::update(&after[..n], &back[..m], 0, &mut again)?;
 //! assert_eq!(again[..n], tuple);
 //! # Ok(())
@@ -36,6 +36,13 @@ mod value;
 pub use error::Error;
 pub use frame::{Frame, Kind, Place};
 pub use value::Value;
+
+/// The longest that [`write_frame`] writes: a buffer of this length is never refused with 18.
+pub const FRAME_ROOM: usize = 60_005;
+/// The longest that [`update`] writes.
+pub const TUPLE_ROOM: usize = 16_384;
+/// The longest that [`undo`] writes.
+pub const UNDO_ROOM: usize = 32_768;
 
 /// Reads the value at the start of the bytes: what it means, and how many bytes it has.
 ///
@@ -113,7 +120,7 @@ pub fn write_frame(frame: &Frame, bytes: &[u8], out: &mut [u8]) -> Result<usize,
     written(unsafe { raw::lak_frame_write((*frame).into(), bytes.as_ptr(), bytes.len(), out.as_mut_ptr(), out.len()) })
 }
 
-/// Writes the tuple that the list makes of a tuple; answers how many bytes were written, at most 16,384.
+/// Writes the tuple that the list makes of a tuple; answers how many bytes were written, at most [`TUPLE_ROOM`].
 ///
 /// Field numbers and splice positions of the list count from the index base, 0 or 1. Refused with 11, 12, then for each
 /// operation 13 to 16, then 18.
@@ -122,7 +129,7 @@ pub fn write_frame(frame: &Frame, bytes: &[u8], out: &mut [u8]) -> Result<usize,
 /// # fn main() -> Result<(), laksubinat::Error> {
 /// let tuple = [0x91, 0xa3, b'a', b'b', b'c']; // ["abc"]
 /// let splice = [0x91, 0x95, 0xa1, b':', 0x00, 0x01, 0x01, 0xa2, b'X', b'Y']; // [[":", 0, 1, 1, "XY"]]
-/// let mut out = [0; 16_384];
+/// let mut out = [0; laksubinat::TUPLE_ROOM];
 /// let n = laksubinat::update(&tuple, &splice, 0, &mut out)?;
 /// assert_eq!(out[..n], [0x91, 0xa4, b'a', b'X', b'Y', b'c']);
 ///
@@ -139,7 +146,7 @@ pub fn update(tuple: &[u8], list: &[u8], index_base: u64, out: &mut [u8]) -> Res
 }
 
 /// Writes the undo list of an update with the same tuple, list and index base; answers how many bytes were written, at
-/// most 32,768.
+/// most [`UNDO_ROOM`].
 ///
 /// An update of the new tuple with this list, index base 0, gives the old tuple back, with the shortest array header.
 /// Refused like [`update`], and with 17 before 18.
@@ -148,7 +155,7 @@ pub fn update(tuple: &[u8], list: &[u8], index_base: u64, out: &mut [u8]) -> Res
 /// # fn main() -> Result<(), laksubinat::Error> {
 /// let tuple = [0x93, 0x01, 0x02, 0x03]; // [1, 2, 3]
 /// let cut = [0x91, 0x93, 0xa1, b'#', 0x01, 0x05]; // [["#", 1, 5]]
-/// let mut out = [0; 32_768];
+/// let mut out = [0; laksubinat::UNDO_ROOM];
 /// let n = laksubinat::undo(&tuple, &cut, 0, &mut out)?;
 /// // [["!", 1, 3], ["!", 1, 2]]
 /// assert_eq!(out[..n], [0x92, 0x93, 0xa1, b'!', 0x01, 0x03, 0x93, 0xa1, b'!', 0x01, 0x02]);

@@ -2,7 +2,7 @@
 
 use compare::calls::{Bindings, Calls, Interface, Reference};
 use compare::cases::{unhex, Case, Change};
-use laksubinat::raw::{Frame, Number, Place};
+use laksubinat::raw::{self, Frame, Number, Place};
 
 const ALL: [&dyn Calls; 3] = [&Reference, &Interface, &Bindings];
 
@@ -154,4 +154,20 @@ fn undo_lists() {
     let old = 32_768 - 1 - 3 * (4 + text.len()) - 4;
     undo(&[vec![0x92], text.clone(), bin(old)].concat(), &list, 0, "an undo list of 32,768 bytes");
     undo(&[vec![0x92], text, bin(old + 1)].concat(), &list, 17, "an undo list of 32,769 bytes");
+}
+
+#[test]
+fn no_bytes_need_no_address() {
+    let (bytes, out) = (std::ptr::null(), std::ptr::null_mut());
+    // SAFETY: with length 0 a pointer is not used.
+    let numbers = unsafe {
+        [
+            raw::lak_value_read(bytes, 0).number,
+            raw::lak_frame_read(bytes, 0).number,
+            raw::lak_frame_write(Frame::default(), bytes, 0, out, 0).number,
+            raw::lak_update(bytes, 0, bytes, 0, 0, out, 0).number,
+            raw::lak_undo([0x90].as_ptr(), 1, [0x90].as_ptr(), 1, 0, out, 0).number,
+        ]
+    };
+    assert_eq!(numbers, [4, 1, 18, 11, 18]);
 }

@@ -1,17 +1,12 @@
 //! Tuples, lists that suit them, and both at their borders.
 
-use super::values;
+use super::{about, values};
 use crate::cases::Change;
 use crate::random::Random;
 use crate::reference::updates::{self, Fields, DEPTH, MOST_FIELDS, MOST_LIST_BYTES, MOST_OPERATIONS, MOST_TUPLE_BYTES};
 use crate::reference::values as meant;
 
 const MARKS: &[u8] = b"+-&^|=!#:";
-
-/// A number that lies near a limit: one or two below it, at it, or above.
-fn about(r: &mut Random, limit: usize) -> usize {
-    limit - 2 + r.below(5)
-}
 
 fn field(r: &mut Random) -> Vec<u8> {
     match r.below(12) {

@@ -1,10 +1,10 @@
 //! Frames and records of frames.
 
-use super::values;
-use crate::calls::{numbers, places};
-use crate::cases::Case;
+use super::{about, values};
+use crate::calls::{numbers, places, Calls, Reference};
+use crate::cases::{Case, MOST_ROOM};
 use crate::random::Random;
-use crate::reference::frames::{read, required, Holds, BODY, HEADER};
+use crate::reference::frames::{read, required, Holds, BODY, HEADER, MOST_SIZE};
 use laksubinat::raw;
 
 const CODES: [u64; 12] = [0, 1, 2, 3, 4, 5, 6, 7, 8, 9, 10, 0x40];
@@ -125,7 +125,7 @@ fn contents(r: &mut Random) -> Vec<u8> {
     unsettle(r, &mut header);
     unsettle(r, &mut body);
     if r.one_in(60) {
-        let size = r.within(59_990..=60_003);
+        let size = about(r, MOST_SIZE);
         let rest = map(r, &header).len() + map(r, &body).len();
         body.push((vec![0x7d], values::sized(r, size.saturating_sub(rest + 1))));
     }
@@ -222,20 +222,34 @@ pub fn record(r: &mut Random) -> Case {
         }
     }
     if r.one_in(20) {
+        fill(r, &mut frame, &mut bytes);
+    }
+    if r.one_in(20) {
         super::damage(r, &mut bytes);
     }
     Case::Write { frame, bytes, room: 0 }
 }
 
-/// What a place holds: as in a frame that is read, at the border of depth, or of the frame's size.
+/// Makes the data so long that the frame's size is about the greatest.
+fn fill(r: &mut Random, frame: &mut raw::Frame, bytes: &mut Vec<u8>) {
+    let start = bytes.len() as u64;
+    bytes.push(0xc0);
+    frame.data = raw::Place { present: true, start, length: 1 };
+    let answer = Reference.frame_write(*frame, bytes, &mut [0; MOST_ROOM]);
+    if answer.number == 0 {
+        bytes.pop();
+        let others = answer.length as usize - 5 - 1;
+        let size = about(r, MOST_SIZE) - others;
+        bytes.extend(values::sized(r, size));
+        frame.data.length = bytes.len() as u64 - start;
+    }
+}
+
+/// What a place holds: as in a frame that is read, or at the border of depth.
 fn held_by_writer(r: &mut Random, holds: Holds) -> Vec<u8> {
     if r.one_in(50) {
         let depth = r.within(13..=17);
         return values::nested(r, depth);
-    }
-    if holds == Holds::Anything && r.one_in(3) {
-        let size = r.within(59_900..=60_003);
-        return values::sized(r, size);
     }
     held(r, holds)
 }

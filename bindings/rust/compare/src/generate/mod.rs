@@ -32,6 +32,11 @@ pub fn damage(r: &mut Random, bytes: &mut Vec<u8>) {
     }
 }
 
+/// A number that lies near a limit: one or two below it, at it, or above.
+pub fn about(r: &mut Random, limit: usize) -> usize {
+    limit - 2 + r.below(5)
+}
+
 /// A buffer's room for a result of this length: mostly one at which the answer turns.
 pub fn room(r: &mut Random, length: usize) -> usize {
     match r.below(12) {

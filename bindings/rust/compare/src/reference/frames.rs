@@ -21,6 +21,9 @@ pub enum Holds {
     Anything,
 }
 
+/// The greatest size of header and body together.
+pub const MOST_SIZE: usize = 60_000;
+
 const CODE: u8 = 0x00;
 const WORD: u64 = 4_294_967_295;
 
@@ -109,8 +112,9 @@ fn size(lent: &[u8]) -> Result<(usize, usize), u32> {
     };
     let number = values::whole(lent.get(..width).ok_or(1u32)?, 0).and_then(|value| value.unsigned());
     match number.expect("an unsigned form with all its bytes") {
-        size @ 1..=60_000 => Ok((size as usize, width)),
-        _ => Err(3),
+        0 => Err(3),
+        size if size > MOST_SIZE as u64 => Err(3),
+        size => Ok((size as usize, width)),
     }
 }
 
@@ -180,7 +184,7 @@ pub fn write(record: &Record, bytes: &[u8]) -> Result<Vec<u8>, u32> {
     }
     let header = map(&[(CODE, values::integer(record.code.into()))], &HEADER, record, &held);
     let contents = [header, map(&[], &BODY, record, &held)].concat();
-    if contents.len() > 60_000 {
+    if contents.len() > MOST_SIZE {
         return Err(3);
     }
     Ok([values::tagged(0xce, contents.len() as i128, 4), contents].concat())
