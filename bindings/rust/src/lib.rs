@@ -139,10 +139,7 @@ pub fn write_frame(frame: &Frame, bytes: &[u8], out: &mut [u8]) -> Result<usize,
 /// # }
 /// ```
 pub fn update(tuple: &[u8], list: &[u8], index_base: u64, out: &mut [u8]) -> Result<usize, Error> {
-    // SAFETY: each pointer and length are those of a slice; the call stays within them, and `out` is lent to it alone.
-    written(unsafe {
-        raw::lak_update(tuple.as_ptr(), tuple.len(), list.as_ptr(), list.len(), index_base, out.as_mut_ptr(), out.len())
-    })
+    changed(raw::lak_update, tuple, list, index_base, out)
 }
 
 /// Writes the undo list of an update with the same tuple, list and index base; answers how many bytes were written, at
@@ -163,10 +160,15 @@ pub fn update(tuple: &[u8], list: &[u8], index_base: u64, out: &mut [u8]) -> Res
 /// # }
 /// ```
 pub fn undo(tuple: &[u8], list: &[u8], index_base: u64, out: &mut [u8]) -> Result<usize, Error> {
+    changed(raw::lak_undo, tuple, list, index_base, out)
+}
+
+type Change = unsafe extern "C" fn(*const u8, usize, *const u8, usize, u64, *mut u8, usize) -> raw::Answer;
+
+fn changed(call: Change, tuple: &[u8], list: &[u8], index_base: u64, out: &mut [u8]) -> Result<usize, Error> {
+    let (n, m) = (tuple.len(), list.len());
     // SAFETY: each pointer and length are those of a slice; the call stays within them, and `out` is lent to it alone.
-    written(unsafe {
-        raw::lak_undo(tuple.as_ptr(), tuple.len(), list.as_ptr(), list.len(), index_base, out.as_mut_ptr(), out.len())
-    })
+    written(unsafe { call(tuple.as_ptr(), n, list.as_ptr(), m, index_base, out.as_mut_ptr(), out.len()) })
 }
 
 fn written(answer: raw::Answer) -> Result<usize, Error> {

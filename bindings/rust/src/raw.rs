@@ -93,6 +93,10 @@ pub struct ValueAnswer {
     pub ext_type: u8,
 }
 
+// The sizes that a C compiler gives them on x86-64.
+const _: () = assert!(size_of::<Frame>() == 328 && size_of::<FrameAnswer>() == 344);
+const _: () = assert!(size_of::<Answer>() == 16 && size_of::<ValueAnswer>() == 48);
+
 extern "C" {
     /// Reads the value at the start of the bytes.
     pub fn lak_value_read(bytes: *const u8, n: usize) -> ValueAnswer;

@@ -100,7 +100,7 @@ pub fn run(r: &mut Random, c: &mut Comparison) -> Result<(), Difference> {
     let Some(mut sequence) = Sequence::from(&tuple, c) else { return Ok(()) };
     update(r, c, &mut sequence, &list, base)?;
     let takes_back = r.within(1..=9);
-    for _ in 0..r.below(24) {
+    for _ in 0..if r.one_in(20) { r.below(200) } else { r.below(24) } {
         if r.below(10) < takes_back {
             sequence.take_back(c, |length| room(r, length))?;
             continue;

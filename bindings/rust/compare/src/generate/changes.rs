@@ -100,31 +100,32 @@ fn in_range(n: i128) -> i128 {
     n.clamp(-(1 << 63), (1 << 64) - 1)
 }
 
-/// Position, count and argument of a splice.
-fn splice(r: &mut Random, base: u64) -> Vec<Vec<u8>> {
-    let number = |r: &mut Random, least: i128| {
-        let n = match r.below(30) {
-            0 => values::number(r),
-            1 => least - 1,
-            _ => least + r.below(12) as i128,
-        };
-        values::integer(r, n)
-    };
-    let length = if r.one_in(12) { r.below(300) } else { r.below(6) };
-    let content = r.bytes(length);
+/// Position, count and argument of a splice on a string of this length; the result often is about as long as a form holds.
+fn splice(r: &mut Random, base: u64, length: usize) -> Vec<Vec<u8>> {
+    let (p, count) = (r.below(12), r.below(12));
+    let kept = length - count.min(length.saturating_sub(p));
+    let wanted = if r.one_in(3) { *r.pick(&[31, 32, 255, 256]) } else { kept + r.below(6) };
+    let content = r.bytes(wanted.saturating_sub(kept));
     let argument = if r.one_in(50) { values::value(r, 2, 5) } else { values::string(r, &content) };
-    vec![number(r, base.into()), number(r, 0), argument]
+    let near = |r: &mut Random, least: u64, n: usize| match r.below(30) {
+        0 => values::number(r),
+        1 => i128::from(least) - 1,
+        _ => i128::from(least) + n as i128,
+    };
+    let (p, count) = (near(r, base, p), near(r, 0, count));
+    vec![values::integer(r, p), values::integer(r, count), argument]
 }
 
 /// One operation for these fields, in any form; now and then one of a wrong shape.
 fn operation(r: &mut Random, fields: &Fields, base: u64) -> Vec<u8> {
     let mark = *r.pick(MARKS);
     let f = field_number(r, fields, mark);
-    let field = usize::try_from(f).ok().and_then(|f| meant::whole(fields.get(f)?, DEPTH)?.integer());
+    let field = usize::try_from(f).ok().and_then(|f| meant::whole(fields.get(f)?, DEPTH));
+    let length = field.as_ref().and_then(|field| field.string()).map_or(0, <[u8]>::len);
     let mut parts = vec![vec![0xa1, mark], values::integer(r, in_range(f + i128::from(base.min(1))))];
     match mark {
-        b':' => parts.extend(splice(r, base.min(1))),
-        _ => parts.push(argument(r, mark, field)),
+        b':' => parts.extend(splice(r, base.min(1), length)),
+        _ => parts.push(argument(r, mark, field.and_then(|field| field.integer()))),
     }
     match r.below(400) {
         0 => parts[0] = vec![0xa1, r.word() as u8],
