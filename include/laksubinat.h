@@ -1,0 +1,201 @@
+/*
+ * laksubinat.h: Tarantool's frames and MessagePack values read and written, tuples updated, and
+ * updates taken back. Link target/staticlib/liblaksubinat.a (`rt staticlib laksubinat`), for
+ * x86-64 Linux. Valid C99 and C++11.
+ *
+ * What holds of every call, for all bytes, however damaged:
+ *   - It ends and answers. `number` is 0 (LAK_OK), or the number of the one refusal that is due.
+ *   - Refused: everything else in the answer is 0 and `out` keeps its bytes. Only 13 to 16 also
+ *     give `operation`, the index from 0 of the operation that was refused.
+ *   - Accepted: `length` bytes were written or read. Bytes of `out` past them are unchanged.
+ *   - Nothing is kept between calls, no memory is allocated, and no other memory is written; so
+ *     any thread may call. The deepest, lak_undo, takes less than 80 KB of stack.
+ *
+ * What the caller owes, since C cannot ask for it and the proofs assume it:
+ *   - A pointer is valid for the length beside it: inputs to be read, `out` to be written.
+ *   - `out` overlaps no input. Inputs may overlap one another.
+ *   - No other thread writes the lent bytes during the call.
+ *   - `present` in a frame is true or false and not another byte; memset to 0 is an empty frame.
+ * With length 0 the pointer is never used: it may be NULL (tested, not proved).
+ */
+#ifndef LAKSUBINAT_H
+#define LAKSUBINAT_H
+
+#include <stdbool.h>
+#include <stddef.h>
+#include <stdint.h>
+
+#ifdef __cplusplus
+extern "C" {
+#endif
+
+/* Why a call refuses. lak_words has the words. */
+enum lak_refusal {
+    LAK_OK = 0,
+    LAK_INCOMPLETE = 1,
+    LAK_NO_SIZE = 2,
+    LAK_BAD_SIZE = 3,
+    LAK_BROKEN = 4,
+    LAK_LEFT_OVER = 5,
+    LAK_BAD_MAP = 6,
+    LAK_KEY_TWICE = 7,
+    LAK_BAD_CODE = 8,
+    LAK_BAD_HELD = 9,
+    LAK_KEY_MISSING = 10,
+    LAK_BAD_TUPLE = 11,
+    LAK_BAD_LIST = 12,
+    LAK_NO_FIELD = 13,
+    LAK_UNSUITED = 14,
+    LAK_OUT_OF_RANGE = 15,
+    LAK_TOO_LARGE = 16,
+    LAK_LONG_UNDO = 17,
+    LAK_SHORT_BUFFER = 18
+};
+
+/* What a frame is: its code. An error's is any from LAK_CODE_ERROR_FIRST to LAK_CODE_ERROR_LAST. */
+enum lak_code {
+    LAK_CODE_OK = 0x00,
+    LAK_CODE_SELECT = 0x01,
+    LAK_CODE_INSERT = 0x02,
+    LAK_CODE_REPLACE = 0x03,
+    LAK_CODE_UPDATE = 0x04,
+    LAK_CODE_DELETE = 0x05,
+    LAK_CODE_CALL_16 = 0x06,
+    LAK_CODE_AUTH = 0x07,
+    LAK_CODE_EVAL = 0x08,
+    LAK_CODE_UPSERT = 0x09,
+    LAK_CODE_CALL = 0x0a,
+    LAK_CODE_PING = 0x40,
+    LAK_CODE_ERROR_FIRST = 0x8000,
+    LAK_CODE_ERROR_LAST = 0x8fff
+};
+
+/* What a value is. */
+enum lak_kind {
+    LAK_KIND_NIL = 0,
+    LAK_KIND_BOOLEAN = 1,
+    LAK_KIND_FROM_ZERO = 2,  /* an integer from 0 up */
+    LAK_KIND_BELOW_ZERO = 3, /* an integer below 0 */
+    LAK_KIND_FLOAT32 = 4,
+    LAK_KIND_FLOAT64 = 5,
+    LAK_KIND_STRING = 6,
+    LAK_KIND_BIN = 7,
+    LAK_KIND_EXT = 8,
+    LAK_KIND_ARRAY = 9,
+    LAK_KIND_MAP = 10
+};
+
+/* The longest that each call writes: an `out` of this size is never refused with 18. */
+enum lak_room {
+    LAK_FRAME_ROOM = 60005,
+    LAK_TUPLE_ROOM = 16384,
+    LAK_UNDO_ROOM = 32768
+};
+
+/* A number that a frame may leave out; absent it is all 0. */
+typedef struct {
+    bool present;
+    uint64_t value;
+} lak_number;
+
+/* The place of a value that a frame may leave out: exactly its encoding, counted from the first
+ * lent byte; absent it is all 0. */
+typedef struct {
+    bool present;
+    uint64_t start;
+    uint64_t length;
+} lak_place;
+
+/* What a frame holds under its known keys. Where `present` is false the rest is not looked at. */
+typedef struct {
+    uint64_t code;
+    lak_number sync, schema_version;
+    lak_number space, index, limit, offset, iterator, index_base;
+    lak_place key, tuple, function, user, expression, ops, data, error;
+} lak_frame;
+
+/* What reading a frame answers: the length with the size number, and the record. */
+typedef struct {
+    uint32_t number;
+    uint64_t length;
+    lak_frame frame;
+} lak_frame_answer;
+
+/* What writing answers: the length written. */
+typedef struct {
+    uint32_t number;
+    uint32_t operation;
+    uint64_t length;
+} lak_answer;
+
+/* What reading a value answers.
+ *   length       of the whole value
+ *   kind         an enum lak_kind
+ *   bits         a boolean's 0 or 1; the integer, below 0 as 64-bit two's complement, so that
+ *                (int64_t)bits is it; exactly the bits sent of a float, also of a NaN; else 0
+ *   start, size  the content of a string, bin or ext (without its type), the whole encoding of an
+ *                array or map; else 0
+ *   ext_type     of an ext; else 0 */
+typedef struct {
+    uint32_t number;
+    uint32_t kind;
+    uint64_t length;
+    uint64_t bits;
+    uint64_t start;
+    uint64_t size;
+    uint8_t ext_type;
+} lak_value_answer;
+
+/* The value at the front of `bytes`, at most 16 deep; nothing past its end is judged. Refuses: 4. */
+lak_value_answer lak_value_read(const uint8_t *bytes, size_t n);
+
+/* The first frame of `bytes`; nothing past its end is judged. Refuses: 2, 1, 3, 1 (the size number,
+ * then what it promises), 4, 5, 6, 7, 8, 9, 10, in this order. */
+lak_frame_answer lak_frame_read(const uint8_t *bytes, size_t n);
+
+/* The record's frame into `out`; its places are in `bytes`. Refuses: 8, 4, 9, 10, 3, 18. */
+lak_answer lak_frame_write(lak_frame frame, const uint8_t *bytes, size_t n, uint8_t *out, size_t room);
+
+/* The list's operations on the tuple, left to right; the new tuple into `out`. Field numbers count
+ * from `index_base`, 0 or 1. Refuses: 11, 12, then for each operation 13, 14, 15, 16; then 18. */
+lak_answer lak_update(const uint8_t *tuple, size_t n, const uint8_t *list, size_t m, uint64_t index_base, uint8_t *out,
+                      size_t room);
+
+/* The list that takes that update back, on the same inputs, into `out`. It counts fields from 0:
+ * lak_update on the new tuple with this list and index base 0 gives the old fields, byte for byte.
+ * Refuses as lak_update does, with 17 before 18. */
+lak_answer lak_undo(const uint8_t *tuple, size_t n, const uint8_t *list, size_t m, uint64_t index_base, uint8_t *out,
+                    size_t room);
+
+/* A refusal's words for people. */
+static inline const char *lak_words(uint32_t number)
+{
+    static const char *const words[] = {
+        "accepted",
+        "the frame has not all come",
+        "the first byte starts no size number",
+        "the size is 0 or above 60,000",
+        "a value is broken, runs past its bytes or is too deep",
+        "bytes remain after the body",
+        "header or body is not a map, or a key is not 0 to 127",
+        "a key stands twice",
+        "the code is absent, not unsigned or unknown",
+        "a known key holds a wrong type or range",
+        "a required key of the body is absent",
+        "the tuple is outside the rules",
+        "the list of operations is outside the rules",
+        "there is no such field",
+        "the field's type or sign does not suit the operation",
+        "the sum or difference is out of range",
+        "more than 64 fields or 16,384 bytes after an operation",
+        "the undo list is above 64 operations or 32,768 bytes",
+        "the lent buffer is too short"
+    };
+    return number < sizeof words / sizeof words[0] ? words[number] : "no such number";
+}
+
+#ifdef __cplusplus
+}
+#endif
+
+#endif

@@ -1,0 +1,419 @@
+/* The header against the library: layouts, all five calls on document 01's examples, every refusal
+ * and its words. Valid C99 and C++11; the last line is `N passed, M failed`. */
+#include <stdio.h>
+#include <string.h>
+
+#include "laksubinat.h"
+
+/* ---- layouts, which C and C++ check while compiling */
+
+#define HOLDS(name, fact) typedef char holds_##name[(fact) ? 1 : -1]
+
+HOLDS(size_t, sizeof(size_t) == 8);
+HOLDS(number, sizeof(lak_number) == 16 && offsetof(lak_number, value) == 8);
+HOLDS(place, sizeof(lak_place) == 24 && offsetof(lak_place, start) == 8 && offsetof(lak_place, length) == 16);
+HOLDS(frame, sizeof(lak_frame) == 8 + 8 * 16 + 8 * 24);
+HOLDS(frame_numbers, offsetof(lak_frame, sync) == 8 && offsetof(lak_frame, index_base) == 8 + 7 * 16);
+HOLDS(frame_places, offsetof(lak_frame, key) == 8 + 8 * 16 && offsetof(lak_frame, error) == 8 + 8 * 16 + 7 * 24);
+HOLDS(frame_answer, sizeof(lak_frame_answer) == 16 + sizeof(lak_frame) && offsetof(lak_frame_answer, frame) == 16);
+HOLDS(answer, sizeof(lak_answer) == 16 && offsetof(lak_answer, operation) == 4 && offsetof(lak_answer, length) == 8);
+HOLDS(value_answer, sizeof(lak_value_answer) == 48 && offsetof(lak_value_answer, kind) == 4);
+HOLDS(value_fields, offsetof(lak_value_answer, bits) == 16 && offsetof(lak_value_answer, ext_type) == 40);
+
+/* ---- help */
+
+typedef struct {
+    uint8_t at[70000];
+    size_t n;
+} bytes;
+
+static int passed, failed;
+static bytes first, second, wanted;
+static uint8_t out[70000];
+
+static void expect(bool holds, const char *call, const char *what)
+{
+    if (holds)
+        passed++;
+    else {
+        failed++;
+        printf("FAILED: %s: %s\n", call, what);
+    }
+}
+
+/* The bytes of pairs of hexadecimal digits with gaps. */
+static void hex(bytes *b, const char *text)
+{
+    unsigned byte;
+    int used;
+    b->n = 0;
+    while (sscanf(text, "%2x%n", &byte, &used) == 1) {
+        b->at[b->n++] = (uint8_t)byte;
+        text += used;
+    }
+}
+
+static void fresh(void)
+{
+    memset(out, 0x5a, sizeof out);
+}
+
+/* Whether `out` holds these bytes, and past them what it held before. */
+static bool holds_only(const bytes *b)
+{
+    size_t i;
+    for (i = b->n; i < sizeof out; i++)
+        if (out[i] != 0x5a)
+            return false;
+    return memcmp(out, b->at, b->n) == 0;
+}
+
+/* Whether the call answered so, with these bytes in `out`; refused, with length 0 and no byte changed. */
+static bool gave(lak_answer a, uint32_t number, uint32_t operation, const char *text)
+{
+    hex(&wanted, number == LAK_OK ? text : "");
+    return a.number == number && a.operation == operation && a.length == wanted.n && holds_only(&wanted);
+}
+
+/* ---- values */
+
+typedef struct {
+    const char *text;
+    lak_value_answer is;
+} value_case;
+
+static const value_case values[] = {
+    {"c0", {LAK_OK, LAK_KIND_NIL, 1, 0, 0, 0, 0}},
+    {"c2", {LAK_OK, LAK_KIND_BOOLEAN, 1, 0, 0, 0, 0}},
+    {"c3 c1", {LAK_OK, LAK_KIND_BOOLEAN, 1, 1, 0, 0, 0}},
+    {"cd 00 05", {LAK_OK, LAK_KIND_FROM_ZERO, 3, 5, 0, 0, 0}},
+    {"cf ff ff ff ff ff ff ff ff", {LAK_OK, LAK_KIND_FROM_ZERO, 9, UINT64_MAX, 0, 0, 0}},
+    {"ff", {LAK_OK, LAK_KIND_BELOW_ZERO, 1, (uint64_t)-1, 0, 0, 0}},
+    {"d3 80 00 00 00 00 00 00 00", {LAK_OK, LAK_KIND_BELOW_ZERO, 9, (uint64_t)INT64_MIN, 0, 0, 0}},
+    {"ca 7f c0 00 01", {LAK_OK, LAK_KIND_FLOAT32, 5, 0x7fc00001, 0, 0, 0}},
+    {"cb bf f0 00 00 00 00 00 00", {LAK_OK, LAK_KIND_FLOAT64, 9, 0xbff0000000000000u, 0, 0, 0}},
+    {"a2 ff fe", {LAK_OK, LAK_KIND_STRING, 3, 0, 1, 2, 0}},
+    {"c4 01 07", {LAK_OK, LAK_KIND_BIN, 3, 0, 2, 1, 0}},
+    {"d4 85 07", {LAK_OK, LAK_KIND_EXT, 3, 0, 2, 1, 0x85}},
+    {"dd 00 00 00 01 07 07", {LAK_OK, LAK_KIND_ARRAY, 6, 0, 0, 6, 0}},
+    {"81 01 90", {LAK_OK, LAK_KIND_MAP, 3, 0, 0, 3, 0}},
+    {"91 91 91 91 91 91 91 91 91 91 91 91 91 91 91 90", {LAK_OK, LAK_KIND_ARRAY, 16, 0, 0, 16, 0}},
+    {"91 91 91 91 91 91 91 91 91 91 91 91 91 91 91 91 90", {LAK_BROKEN, 0, 0, 0, 0, 0, 0}},
+    {"", {LAK_BROKEN, 0, 0, 0, 0, 0, 0}},
+    {"c1", {LAK_BROKEN, 0, 0, 0, 0, 0, 0}},
+    {"c7 00", {LAK_BROKEN, 0, 0, 0, 0, 0, 0}}
+};
+
+static void check_values(void)
+{
+    size_t i;
+    for (i = 0; i < sizeof values / sizeof values[0]; i++) {
+        const lak_value_answer *is = &values[i].is;
+        lak_value_answer a;
+        hex(&first, values[i].text);
+        a = lak_value_read(first.at, first.n);
+        expect(a.number == is->number && a.kind == is->kind && a.length == is->length, "lak_value_read", values[i].text);
+        expect(a.bits == is->bits && a.start == is->start && a.size == is->size && a.ext_type == is->ext_type,
+               "lak_value_read, content", values[i].text);
+    }
+}
+
+/* ---- frames */
+
+static const char select_of_001[] = "ce 00 00 00 1b 82 01 04 00 01 86 10 cd 02 00 11 00 14 00 13 00 12 ce ff ff ff ff"
+                                    " 20 91 cd 01 18";
+static const char select_rewritten[] = "ce 00 00 00 1b 82 00 01 01 04 86 10 cd 02 00 11 00 12 ce ff ff ff ff 13 00 14 00"
+                                       " 20 91 cd 01 18";
+static const char every_key[] = "ce 00 00 00 2a 83 00 01 01 08 05 09 8e 10 01 11 02 12 03 13 04 14 05 15 01 20 91 06"
+                                " 21 91 07 22 a1 66 23 a1 75 27 a1 65 28 90 30 c0 31 a1 78";
+
+typedef struct {
+    const char *text;
+    uint32_t number;
+} frame_case;
+
+static const frame_case refused_frames[] = {
+    {"", LAK_INCOMPLETE},
+    {"00", LAK_BAD_SIZE},
+    {"e0", LAK_NO_SIZE},
+    {"ce 00 00 ea 61", LAK_BAD_SIZE},
+    {"ce 00 00 ea 60", LAK_INCOMPLETE},
+    {"ce 00", LAK_INCOMPLETE},
+    {"01 c1", LAK_BROKEN},
+    {"03 80 80 00", LAK_LEFT_OVER},
+    {"01 90", LAK_BAD_MAP},
+    {"05 82 00 40 00 40", LAK_KEY_TWICE},
+    {"01 80", LAK_BAD_CODE},
+    {"05 82 00 40 01 a0", LAK_BAD_HELD},
+    {"03 81 00 01", LAK_KEY_MISSING}
+};
+
+static bool is_number(lak_number n, uint64_t value)
+{
+    return n.present && n.value == value;
+}
+
+static bool is_place(lak_place p, uint64_t start, uint64_t length)
+{
+    return p.present && p.start == start && p.length == length;
+}
+
+static lak_frame empty_frame(void)
+{
+    lak_frame f;
+    memset(&f, 0, sizeof f);
+    return f;
+}
+
+static bool no_number(lak_number n)
+{
+    return !n.present && n.value == 0;
+}
+
+static bool no_place(lak_place p)
+{
+    return !p.present && p.start == 0 && p.length == 0;
+}
+
+/* Field by field, since the bytes between fields may be anything. */
+static bool is_empty(lak_frame f)
+{
+    return f.code == 0 && no_number(f.sync) && no_number(f.schema_version) && no_number(f.space) && no_number(f.index) &&
+           no_number(f.limit) && no_number(f.offset) && no_number(f.iterator) && no_number(f.index_base) && no_place(f.key) &&
+           no_place(f.tuple) && no_place(f.function) && no_place(f.user) && no_place(f.expression) && no_place(f.ops) &&
+           no_place(f.data) && no_place(f.error);
+}
+
+static void check_refused_frames(void)
+{
+    size_t i;
+    for (i = 0; i < sizeof refused_frames / sizeof refused_frames[0]; i++) {
+        lak_frame_answer a;
+        hex(&first, refused_frames[i].text);
+        a = lak_frame_read(first.at, first.n);
+        expect(a.number == refused_frames[i].number && a.length == 0 && is_empty(a.frame), "lak_frame_read", refused_frames[i].text);
+    }
+}
+
+/* 001's select: read, read with more behind it, cut, and written with its keys rising. */
+static void check_select(void)
+{
+    lak_frame_answer a;
+    hex(&first, select_of_001);
+    a = lak_frame_read(first.at, first.n);
+    expect(a.number == LAK_OK && a.length == 32 && a.frame.code == LAK_CODE_SELECT, "lak_frame_read", "select");
+    expect(is_number(a.frame.sync, 4) && is_number(a.frame.space, 512) && is_number(a.frame.limit, 4294967295u), "lak_frame_read",
+           "select's numbers");
+    expect(is_place(a.frame.key, 28, 4) && !a.frame.tuple.present && !a.frame.schema_version.present, "lak_frame_read",
+           "select's places");
+    fresh();
+    expect(gave(lak_frame_write(a.frame, first.at, first.n, out, 32), LAK_OK, 0, select_rewritten), "lak_frame_write", "select");
+    expect(lak_frame_read(first.at, 33).length == 32, "lak_frame_read", "select and one more byte");
+    expect(lak_frame_read(first.at, 31).number == LAK_INCOMPLETE, "lak_frame_read", "select, cut");
+}
+
+/* Each field is where the library has it, in both directions. */
+static void check_every_key(void)
+{
+    lak_frame_answer a;
+    lak_frame f;
+    hex(&first, every_key);
+    a = lak_frame_read(first.at, first.n);
+    f = a.frame;
+    expect(a.number == LAK_OK && a.length == first.n && f.code == LAK_CODE_SELECT, "lak_frame_read", "every key");
+    expect(is_number(f.sync, 8) && is_number(f.schema_version, 9) && is_number(f.space, 1) && is_number(f.index, 2) &&
+               is_number(f.limit, 3) && is_number(f.offset, 4) && is_number(f.iterator, 5) && is_number(f.index_base, 1),
+           "lak_frame_read", "every number");
+    expect(is_place(f.key, 26, 2) && is_place(f.tuple, 29, 2) && is_place(f.function, 32, 2) && is_place(f.user, 35, 2) &&
+               is_place(f.expression, 38, 2) && is_place(f.ops, 41, 1) && is_place(f.data, 43, 1) && is_place(f.error, 45, 2),
+           "lak_frame_read", "every place");
+    fresh();
+    expect(gave(lak_frame_write(f, first.at, first.n, out, first.n), LAK_OK, 0, every_key), "lak_frame_write", "every key");
+    fresh();
+    expect(gave(lak_frame_write(f, first.at, first.n, out, first.n - 1), LAK_SHORT_BUFFER, 0, ""), "lak_frame_write", "one byte short");
+}
+
+/* An insert of the bytes of `first`, all of them. */
+static lak_frame insert(uint64_t space)
+{
+    lak_frame f = empty_frame();
+    f.code = LAK_CODE_INSERT;
+    f.space.present = true;
+    f.space.value = space;
+    f.tuple.present = true;
+    f.tuple.length = first.n;
+    return f;
+}
+
+static void refuses(lak_frame f, uint32_t number, const char *what)
+{
+    fresh();
+    expect(gave(lak_frame_write(f, first.at, first.n, out, sizeof out), number, 0, ""), "lak_frame_write", what);
+}
+
+static void check_refused_writing(void)
+{
+    lak_frame f = empty_frame();
+    hex(&first, "91 05");
+    f.code = 0x3f;
+    refuses(f, LAK_BAD_CODE, "unknown code");
+    f = insert(512);
+    f.tuple.start = 1;
+    refuses(f, LAK_BROKEN, "a place past the bytes");
+    refuses(insert(4294967296u), LAK_BAD_HELD, "space above 32 bits");
+    f = insert(512);
+    f.space.present = false;
+    refuses(f, LAK_KEY_MISSING, "no space");
+    first.n = 60003;
+    memset(first.at, 0, first.n);
+    hex(&second, "dc ea 60"); /* an array of 60,000 zeros */
+    memcpy(first.at, second.at, second.n);
+    refuses(insert(512), LAK_BAD_SIZE, "more than 60,000 bytes");
+}
+
+/* ---- updates */
+
+typedef struct {
+    const char *tuple, *list;
+    uint64_t base;
+    uint32_t number, operation;
+    const char *after, *undo;
+} update_case;
+
+static const update_case updates[] = {
+    {"93 05 a2 61 62 c3", "91 93 a1 5e 00 01", 0, LAK_OK, 0, "93 04 a2 61 62 c3", "91 93 a1 3d 00 05"},
+    {"93 05 a2 61 62 c3", "91 93 a1 5e 01 01", 1, LAK_OK, 0, "93 04 a2 61 62 c3", "91 93 a1 3d 00 05"},
+    {"91 cd 00 05", "91 93 a1 2b 00 01", 0, LAK_OK, 0, "91 06", "91 93 a1 3d 00 cd 00 05"},
+    {"93 01 02 03", "91 93 a1 23 01 05", 0, LAK_OK, 0, "91 01", "92 93 a1 21 01 03 93 a1 21 01 02"},
+    {"91 01", "91 93 a1 3d 01 09", 0, LAK_OK, 0, "92 01 09", "91 93 a1 23 01 01"},
+    {"91 a3 61 62 63", "91 95 a1 3a 00 01 01 a2 58 59", 0, LAK_OK, 0, "91 a4 61 58 59 63", "91 93 a1 3d 00 a3 61 62 63"},
+    {"91 00", "91 93 a1 2d 00 01", 0, LAK_OK, 0, "91 ff", "91 93 a1 3d 00 00"},
+    {"dd 00 00 00 01 07", "90", 0, LAK_OK, 0, "91 07", "90"},
+    {"90", "90", 0, LAK_OK, 0, "90", "90"},
+    {"c0", "90", 0, LAK_BAD_TUPLE, 0, "", ""},
+    {"91 01", "c0", 0, LAK_BAD_LIST, 0, "", ""},
+    {"91 01", "90", 2, LAK_BAD_LIST, 0, "", ""},
+    {"91 01", "91 93 a1 2b 05 01", 0, LAK_NO_FIELD, 0, "", ""},
+    {"91 01", "92 93 a1 3d 00 05 93 a1 2b 07 01", 0, LAK_NO_FIELD, 1, "", ""},
+    {"91 a0", "91 93 a1 2b 00 01", 0, LAK_UNSUITED, 0, "", ""},
+    {"91 cf ff ff ff ff ff ff ff ff", "91 93 a1 2b 00 01", 0, LAK_OUT_OF_RANGE, 0, "", ""}
+};
+
+static void check_updates(void)
+{
+    size_t i;
+    for (i = 0; i < sizeof updates / sizeof updates[0]; i++) {
+        const update_case *u = &updates[i];
+        lak_answer a;
+        hex(&first, u->tuple);
+        hex(&second, u->list);
+        fresh();
+        a = lak_update(first.at, first.n, second.at, second.n, u->base, out, LAK_TUPLE_ROOM);
+        expect(gave(a, u->number, u->operation, u->after), "lak_update", u->tuple);
+        fresh();
+        a = lak_undo(first.at, first.n, second.at, second.n, u->base, out, LAK_UNDO_ROOM);
+        expect(gave(a, u->number, u->operation, u->undo), "lak_undo", u->tuple);
+        hex(&wanted, u->after);
+        fresh();
+        a = lak_update(first.at, first.n, second.at, second.n, u->base, out, wanted.n - (wanted.n > 0));
+        expect(gave(a, u->number ? u->number : (uint32_t)LAK_SHORT_BUFFER, u->operation, ""), "lak_update, short", u->tuple);
+        hex(&wanted, u->undo);
+        fresh();
+        a = lak_undo(first.at, first.n, second.at, second.n, u->base, out, wanted.n - (wanted.n > 0));
+        expect(gave(a, u->number ? u->number : (uint32_t)LAK_SHORT_BUFFER, u->operation, ""), "lak_undo, short", u->tuple);
+    }
+}
+
+/* Each update that went in is taken back to the old fields. */
+static void check_taking_back(void)
+{
+    static uint8_t after[LAK_TUPLE_ROOM], undo[LAK_UNDO_ROOM];
+    size_t i;
+    for (i = 0; updates[i].number == LAK_OK; i++) {
+        const update_case *u = &updates[i];
+        lak_answer done, list, plain, back;
+        hex(&first, u->tuple);
+        hex(&second, u->list);
+        done = lak_update(first.at, first.n, second.at, second.n, u->base, after, sizeof after);
+        list = lak_undo(first.at, first.n, second.at, second.n, u->base, undo, sizeof undo);
+        hex(&second, "90"); /* an empty list gives the plain form */
+        plain = lak_update(first.at, first.n, second.at, second.n, 0, wanted.at, LAK_TUPLE_ROOM);
+        wanted.n = plain.length;
+        fresh();
+        back = lak_update(after, done.length, undo, list.length, 0, out, plain.length);
+        expect(back.number == LAK_OK && back.length == wanted.n && holds_only(&wanted), "taking back", u->tuple);
+    }
+}
+
+/* 64 fields pass; a 65th is refused with 16; an undo list of 65 operations with 17. */
+static void check_64_fields(void)
+{
+    hex(&first, "dc 00 40");
+    memset(first.at + 3, 1, 64);
+    first.n = 67;
+    hex(&second, "90");
+    fresh();
+    expect(lak_update(first.at, first.n, second.at, second.n, 0, out, LAK_TUPLE_ROOM).number == LAK_OK && holds_only(&first),
+           "lak_update", "64 fields");
+    hex(&second, "91 93 a1 21 00 01");
+    fresh();
+    expect(gave(lak_update(first.at, first.n, second.at, second.n, 0, out, LAK_TUPLE_ROOM), LAK_TOO_LARGE, 0, ""), "lak_update",
+           "65 fields");
+    hex(&second, "92 93 a1 23 00 40 93 a1 21 00 01");
+    fresh();
+    expect(gave(lak_undo(first.at, first.n, second.at, second.n, 0, out, LAK_UNDO_ROOM), LAK_LONG_UNDO, 0, ""), "lak_undo",
+           "65 operations");
+    fresh();
+    expect(gave(lak_update(first.at, first.n, second.at, second.n, 0, out, LAK_TUPLE_ROOM), LAK_OK, 0, "91 01"), "lak_update",
+           "whose undo list is too long");
+}
+
+/* ---- a null pointer with length 0, and the words */
+
+static void check_null(void)
+{
+    lak_frame ping = empty_frame();
+    ping.code = LAK_CODE_PING;
+    hex(&first, "91 01");
+    hex(&second, "90");
+    expect(lak_value_read(NULL, 0).number == LAK_BROKEN, "lak_value_read", "NULL");
+    expect(lak_frame_read(NULL, 0).number == LAK_INCOMPLETE, "lak_frame_read", "NULL");
+    expect(lak_frame_write(ping, NULL, 0, NULL, 0).number == LAK_SHORT_BUFFER, "lak_frame_write", "NULL");
+    fresh();
+    expect(gave(lak_frame_write(ping, NULL, 0, out, 9), LAK_OK, 0, "ce 00 00 00 04 81 00 40 80"), "lak_frame_write", "ping");
+    expect(lak_update(NULL, 0, second.at, 1, 0, NULL, 0).number == LAK_BAD_TUPLE, "lak_update", "NULL tuple");
+    expect(lak_update(first.at, 2, NULL, 0, 0, NULL, 0).number == LAK_BAD_LIST, "lak_update", "NULL list");
+    expect(lak_update(first.at, 2, second.at, 1, 0, NULL, 0).number == LAK_SHORT_BUFFER, "lak_update", "NULL out");
+    expect(lak_undo(NULL, 0, NULL, 0, 0, NULL, 0).number == LAK_BAD_TUPLE, "lak_undo", "NULL tuple");
+    expect(lak_undo(first.at, 2, second.at, 1, 0, NULL, 0).number == LAK_SHORT_BUFFER, "lak_undo", "NULL out");
+}
+
+static void check_words(void)
+{
+    uint32_t i, j;
+    for (i = LAK_OK; i <= LAK_SHORT_BUFFER; i++) {
+        bool own = lak_words(i)[0] != 0;
+        for (j = LAK_OK; j <= LAK_SHORT_BUFFER + 1; j++)
+            own = own && (i == j || strcmp(lak_words(i), lak_words(j)) != 0);
+        expect(own, "lak_words", lak_words(i));
+    }
+    expect(strcmp(lak_words(LAK_OK), "accepted") == 0, "lak_words", "0");
+    expect(strcmp(lak_words(LAK_SHORT_BUFFER), "the lent buffer is too short") == 0, "lak_words", "18");
+    expect(strcmp(lak_words(UINT32_MAX), "no such number") == 0, "lak_words", "past 18");
+}
+
+int main(void)
+{
+    check_values();
+    check_refused_frames();
+    check_select();
+    check_every_key();
+    check_refused_writing();
+    check_updates();
+    check_taking_back();
+    check_64_fields();
+    check_null();
+    check_words();
+    printf("%d passed, %d failed\n", passed, failed);
+    return failed != 0;
+}
