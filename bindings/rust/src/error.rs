@@ -68,3 +68,17 @@ impl fmt::Display for Error {
 }
 
 impl std::error::Error for Error {}
+
+#[cfg(test)]
+mod tests {
+    use super::*;
+
+    #[test]
+    fn words_are_the_headers() {
+        let header = include_str!("../../../include/laksubinat.h");
+        let table = header.split("words[] = {").nth(1).and_then(|rest| rest.split('}').next()).expect("the table");
+        let words: Vec<_> = table.split('"').skip(1).step_by(2).collect();
+        let ours: Vec<_> = (1..=18).map(|number| Error::new(number, 0).words()).collect();
+        assert_eq!((words[0], &words[1..]), ("accepted", &ours[..]));
+    }
+}
