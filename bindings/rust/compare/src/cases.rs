@@ -1,6 +1,7 @@
 //! One call with its inputs; what came of it; the difference between two of them.
 
-use crate::calls::Calls;
+use crate::calls::{numbers, places, Calls};
+use crate::reference::values::{self, Meaning};
 use laksubinat::raw::{self, Answer, FrameAnswer, ValueAnswer};
 use std::fmt;
 
@@ -114,7 +115,7 @@ impl Outcome {
         }
     }
 
-    /// The bytes written.
+    /// The bytes written, as the reference says; a library's length may be any number.
     pub fn written(&self) -> &[u8] {
         &self.buffer[GUARD..GUARD + self.length()]
     }
@@ -142,7 +143,7 @@ impl fmt::Display for Case {
         writeln!(f, "{}", CALLS[self.call()])?;
         match self {
             Case::Value { bytes } | Case::Read { bytes } => write!(f, "bytes {}", hex(bytes)),
-            Case::Write { frame, bytes, room } => write!(f, "{frame:?}\nbytes {}\nroom {room}", hex(bytes)),
+            Case::Write { frame, bytes, room } => write!(f, "{}\nbytes {}\nroom {room}", shown(*frame), hex(bytes)),
             Case::Update(change) | Case::Undo(change) => change.fmt(f),
         }
     }
@@ -150,13 +151,43 @@ impl fmt::Display for Case {
 
 impl fmt::Display for Outcome {
     fn fmt(&self, f: &mut fmt::Formatter<'_>) -> fmt::Result {
-        write!(f, "{:?}\nbuffer with its guards {}", self.reply, hex(&self.buffer))
+        match &self.reply {
+            Reply::Value(answer) => return write!(f, "{answer:?}"),
+            Reply::Read(answer) => {
+                return write!(f, "number {}, length {}, {}", answer.number, answer.length, shown(answer.frame))
+            }
+            Reply::Written(answer) => write!(f, "{answer:?}")?,
+        }
+        let end = GUARD.saturating_add(self.length());
+        write!(f, " {}", hex(self.buffer.get(GUARD..end).unwrap_or_default()))?;
+        let outside = |at: &usize| !(GUARD..end).contains(at) && self.buffer[*at] != PATTERN[*at];
+        match (0..self.buffer.len()).find(outside) {
+            Some(at) => write!(f, ", and byte {} of the buffer changed", at as i64 - GUARD as i64),
+            None => Ok(()),
+        }
     }
 }
 
-/// Cuts bytes out of the case for as long as it still fails: halves first, then smaller parts.
+/// A record's code and what it has, by key.
+fn shown(mut frame: raw::Frame) -> String {
+    let mut words = format!("code {:#x}", frame.code);
+    for (key, number) in numbers(&mut frame).into_iter().filter(|(_, number)| number.present) {
+        words += &format!(", {key:#04x}: {}", number.value);
+    }
+    for (key, place) in places(&mut frame).into_iter().filter(|(_, place)| place.present) {
+        words += &format!(", {key:#04x}: {} bytes from {}", place.length, place.start);
+    }
+    words
+}
+
+/// Makes the case smaller for as long as it still fails: arrays lose items, then bytes are cut out, halves first.
 pub fn shrink(case: &Case, fails: impl Fn(&Case) -> bool) -> Case {
     let mut best = case.clone();
+    for part in 0..best.parts().len() {
+        while let Some(smaller) = fewer(&mut best, part).into_iter().find(&fails) {
+            best = smaller;
+        }
+    }
     for part in 0..best.parts().len() {
         let mut step = best.parts()[part].len().div_ceil(2);
         while step > 0 {
@@ -174,4 +205,19 @@ pub fn shrink(case: &Case, fails: impl Fn(&Case) -> bool) -> Case {
         }
     }
     best
+}
+
+/// The case with one item less in the array that a part is, for each of its items.
+fn fewer(case: &mut Case, part: usize) -> Vec<Case> {
+    let bytes = case.parts()[part].clone();
+    let Some(Meaning::Array(items)) = values::whole(&bytes, 16).map(|value| value.meaning) else { return Vec::new() };
+    let items: Vec<_> = items.iter().map(|item| item.bytes).collect();
+    let without = |at| values::array(&[&items[..at], &items[at + 1..]].concat());
+    (0..items.len())
+        .map(|at| {
+            let mut smaller = case.clone();
+            *smaller.parts()[part] = without(at);
+            smaller
+        })
+        .collect()
 }

@@ -37,7 +37,7 @@ fn held(r: &mut Random, holds: Holds) -> Vec<u8> {
     match holds {
         Holds::UpTo(most) => {
             let n = near(r, most);
-            values::unsigned(r, n)
+            values::nearly_unsigned(r, n)
         }
         Holds::Array => {
             let items: Vec<_> = (0..r.below(4)).map(|_| values::value(r, 3, 20)).collect();
@@ -55,13 +55,13 @@ fn held(r: &mut Random, holds: Holds) -> Vec<u8> {
 type Entries = Vec<(Vec<u8>, Vec<u8>)>;
 
 fn header(r: &mut Random, code: u64) -> Entries {
-    let mut entries = vec![(values::unsigned(r, 0), values::unsigned(r, code))];
+    let mut entries = vec![(values::unsigned(r, 0), values::nearly_unsigned(r, code))];
     if r.one_in(40) {
         entries[0].1 = values::value(r, 1, 4);
     }
     for (key, holds) in HEADER {
         if r.one_in(2) {
-            entries.push((values::unsigned(r, key.into()), held(r, holds)));
+            entries.push((values::nearly_unsigned(r, key.into()), held(r, holds)));
         }
     }
     entries
@@ -72,7 +72,7 @@ fn body(r: &mut Random, code: u64) -> Entries {
     for (key, holds) in BODY {
         let is_required = required(code).is_some_and(|keys| keys.contains(&key));
         if if is_required { !r.one_in(60) } else { r.one_in(8) } {
-            entries.push((values::unsigned(r, key.into()), held(r, holds)));
+            entries.push((values::nearly_unsigned(r, key.into()), held(r, holds)));
         }
     }
     entries

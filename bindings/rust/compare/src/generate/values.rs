@@ -28,9 +28,8 @@ pub fn unsigned(r: &mut Random, n: u64) -> Vec<u8> {
     form(r, unsigned_forms(n))
 }
 
-/// An integer in an unsigned or signed form.
-pub fn integer(r: &mut Random, n: i128) -> Vec<u8> {
-    let mut all = u64::try_from(n).map_or(Vec::new(), unsigned_forms);
+fn signed_forms(n: i128) -> Vec<Vec<u8>> {
+    let mut all = Vec::new();
     if (-0x20..0).contains(&n) {
         all.push(vec![n as u8]);
     }
@@ -40,7 +39,21 @@ pub fn integer(r: &mut Random, n: i128) -> Vec<u8> {
             all.push(tagged(first, n, width));
         }
     }
-    form(r, all)
+    all
+}
+
+/// An integer in an unsigned or signed form.
+pub fn integer(r: &mut Random, n: i128) -> Vec<u8> {
+    let unsigned = u64::try_from(n).map_or(Vec::new(), unsigned_forms);
+    form(r, [unsigned, signed_forms(n)].concat())
+}
+
+/// A number where an unsigned one is due; now and then its form is signed.
+pub fn nearly_unsigned(r: &mut Random, n: u64) -> Vec<u8> {
+    match signed_forms(n.into()) {
+        forms if r.one_in(60) && !forms.is_empty() => form(r, forms),
+        _ => unsigned(r, n),
+    }
 }
 
 /// An integer near a power of two or an end of the integers' range.
