@@ -8,6 +8,9 @@ use crate::reference::values as meant;
 
 const MARKS: &[u8] = b"+-&^|=!#:";
 
+/// The first numbers that are no integers of the rules.
+const OUTSIDE: [i128; 2] = [-(1 << 63) - 1, 1 << 64];
+
 fn field(r: &mut Random) -> Vec<u8> {
     match r.below(12) {
         0..=4 => {
@@ -80,7 +83,7 @@ fn field_number(r: &mut Random, fields: &Fields, mark: u8) -> i128 {
 
 /// An argument that suits the mark, now and then any value. Sums and differences mostly come near a number's border.
 fn argument(r: &mut Random, mark: u8, field: Option<i128>) -> Vec<u8> {
-    let border = values::number(r) + r.below(3) as i128 - 1;
+    let border = if r.one_in(6) { *r.pick(&OUTSIDE) } else { values::number(r) + r.below(3) as i128 - 1 };
     let n = match (mark, r.below(40), field) {
         (_, 0, _) => return values::value(r, 3, 10),
         (b'=' | b'!', ..) => return self::field(r),
@@ -200,6 +203,29 @@ fn long_list(r: &mut Random) -> Change {
     Change { tuple: vec![0x91, 0x01], list: meant::array(&operations), base: 0, room: 0 }
 }
 
+/// A tuple that grows to about as many bytes as are allowed, by an assigned, inserted or spliced field.
+fn filled(r: &mut Random) -> Change {
+    let count = r.within(1..=20);
+    let mut fields: Fields = (0..count).map(|_| values::scalar(r, 8)).collect();
+    let at = r.below(count);
+    let mark = *r.pick(b"=!:");
+    if mark == b':' {
+        fields[at] = vec![0xa0];
+    }
+    let tuple = values::array(r, &fields);
+    match mark {
+        b'!' => fields.insert(at, vec![]),
+        _ => fields[at] = vec![],
+    }
+    let size = about(r, MOST_TUPLE_BYTES) - meant::array(&fields).len();
+    let new = values::sized(r, size);
+    let operation = match mark {
+        b':' => meant::array(&[&[0xa1, b':'][..], &[at as u8], &[0x00], &[0x00], &[&[0xda], &new[1..]].concat()]),
+        _ => three(mark, at, &new),
+    };
+    Change { tuple, list: meant::array(&[operation]), base: 0, room: 0 }
+}
+
 /// An undo list of about as many operations as are allowed: all fields removed, then some put back.
 fn many_undone(r: &mut Random) -> Change {
     let count = r.within(30..=MOST_FIELDS);
@@ -234,6 +260,7 @@ pub fn change(r: &mut Random) -> Change {
         0 => long_list(r),
         1 | 2 => many_undone(r),
         3 | 4 => long_undone(r),
+        5..=7 => filled(r),
         _ => {
             let (tuple, base) = (tuple(r), base(r));
             Change { list: list(r, &tuple, base), tuple, base, room: 0 }
