@@ -1,4 +1,4 @@
-//! The comparison: rounds of random cases, each made with the library in both its dresses and with the reference.
+//! The comparison: rounds of random cases, each made with the library, by both its interfaces, and with the reference.
 
 use crate::calls::{self, Bindings, Calls, Interface, Reference};
 use crate::cases::{shrink, Case, Change, Outcome, Reply, CALLS, MOST_ROOM};

@@ -78,7 +78,7 @@ fn body(r: &mut Random, code: u64) -> Entries {
     entries
 }
 
-/// Unknown keys, keys past 127, keys that are no numbers, keys that stand twice, entries in another order.
+/// Unknown keys, few or many, keys past 127, keys that are no numbers, keys that stand twice, entries in another order.
 fn unsettle(r: &mut Random, entries: &mut Entries) {
     if r.one_in(3) {
         r.shuffle(entries);
@@ -88,8 +88,12 @@ fn unsettle(r: &mut Random, entries: &mut Entries) {
         entries.push((values::unsigned(r, key), values::value(r, 3, 8)));
     }
     if r.one_in(30) {
-        let key = *r.pick(&[127, 127, 128, 300]);
+        let key = *r.pick(&[127, 127, 128, 0x110, 0x1_0000_0000, 0x1_0000_0010]);
         entries.push((values::unsigned(r, key), vec![0xc0]));
+    }
+    if r.one_in(60) {
+        let first = r.within(0x2a..=0x80) as u64;
+        entries.extend((first..0x80).map(|key| (values::unsigned(r, key), vec![0xc0])));
     }
     if r.one_in(60) {
         let key = if r.one_in(2) { values::integer(r, 5) } else { values::value(r, 2, 4) };
