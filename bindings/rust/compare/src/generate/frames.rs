@@ -215,14 +215,17 @@ pub fn record(r: &mut Random) -> Case {
         let Some((_, Holds::UpTo(most))) = HEADER.iter().chain(&BODY).find(|known| known.0 == key) else { continue };
         *number = raw::Number { present: wanted(r, key), value: near(r, *most) };
     }
+    let mut last = raw::Place::default();
     for (key, place) in places(&mut frame) {
         let Some((_, holds)) = BODY.iter().find(|known| known.0 == key) else { continue };
         let present = wanted(r, key);
         let value = if present { held_by_writer(r, *holds) } else { vec![] };
         *place = raw::Place { present, start: bytes.len() as u64, length: value.len() as u64 };
         bytes.extend(value);
-        if r.one_in(40) {
-            displace(r, place);
+        match r.below(40) {
+            0 => displace(r, place),
+            1 => *place = raw::Place { present, ..last },
+            _ => last = *place,
         }
     }
     if r.one_in(20) {
