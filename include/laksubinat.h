@@ -9,7 +9,8 @@
  *     give `operation`, the index from 0 of the operation that was refused.
  *   - Accepted: `length` bytes were written or read. Bytes of `out` past them are unchanged.
  *   - Nothing is kept between calls, no memory is allocated, and no other memory is written; so
- *     any thread may call. The deepest, lak_undo, takes less than 80 KB of stack.
+ *     any thread may call. Stack, measured: lak_undo 68 KB, lak_update 36 KB, lak_frame_read 15 KB;
+ *     the other two less than 4 KB.
  *
  * What the caller owes, since C cannot ask for it and the proofs assume it:
  *   - A pointer is valid for the length beside it: inputs to be read, `out` to be written.
@@ -86,11 +87,7 @@ enum lak_kind {
 };
 
 /* The longest that each call writes: an `out` of this size is never refused with 18. */
-enum lak_room {
-    LAK_FRAME_ROOM = 60005,
-    LAK_TUPLE_ROOM = 16384,
-    LAK_UNDO_ROOM = 32768
-};
+enum lak_room { LAK_FRAME_ROOM = 60005, LAK_TUPLE_ROOM = 16384, LAK_UNDO_ROOM = 32768 };
 
 /* A number that a frame may leave out; absent it is all 0. */
 typedef struct {
@@ -189,7 +186,7 @@ static inline const char *lak_words(uint32_t number)
         "the sum or difference is out of range",
         "more than 64 fields or 16,384 bytes after an operation",
         "the undo list is above 64 operations or 32,768 bytes",
-        "the lent buffer is too short"
+        "the lent buffer is too short",
     };
     return number < sizeof words / sizeof words[0] ? words[number] : "no such number";
 }

@@ -19,6 +19,7 @@ HOLDS(frame_answer, sizeof(lak_frame_answer) == 16 + sizeof(lak_frame) && offset
 HOLDS(answer, sizeof(lak_answer) == 16 && offsetof(lak_answer, operation) == 4 && offsetof(lak_answer, length) == 8);
 HOLDS(value_answer, sizeof(lak_value_answer) == 48 && offsetof(lak_value_answer, kind) == 4);
 HOLDS(value_fields, offsetof(lak_value_answer, bits) == 16 && offsetof(lak_value_answer, ext_type) == 40);
+HOLDS(ext_type, sizeof(((lak_value_answer *)0)->ext_type) == 1);
 
 /* ---- help */
 
@@ -101,7 +102,7 @@ static const value_case values[] = {
     {"91 91 91 91 91 91 91 91 91 91 91 91 91 91 91 91 90", {LAK_BROKEN, 0, 0, 0, 0, 0, 0}},
     {"", {LAK_BROKEN, 0, 0, 0, 0, 0, 0}},
     {"c1", {LAK_BROKEN, 0, 0, 0, 0, 0, 0}},
-    {"c7 00", {LAK_BROKEN, 0, 0, 0, 0, 0, 0}}
+    {"c7 00", {LAK_BROKEN, 0, 0, 0, 0, 0, 0}},
 };
 
 static void check_values(void)
@@ -112,7 +113,8 @@ static void check_values(void)
         lak_value_answer a;
         hex(&first, values[i].text);
         a = lak_value_read(first.at, first.n);
-        expect(a.number == is->number && a.kind == is->kind && a.length == is->length, "lak_value_read", values[i].text);
+        expect(a.number == is->number && a.kind == is->kind && a.length == is->length, "lak_value_read",
+               values[i].text);
         expect(a.bits == is->bits && a.start == is->start && a.size == is->size && a.ext_type == is->ext_type,
                "lak_value_read, content", values[i].text);
     }
@@ -122,8 +124,8 @@ static void check_values(void)
 
 static const char select_of_001[] = "ce 00 00 00 1b 82 01 04 00 01 86 10 cd 02 00 11 00 14 00 13 00 12 ce ff ff ff ff"
                                     " 20 91 cd 01 18";
-static const char select_rewritten[] = "ce 00 00 00 1b 82 00 01 01 04 86 10 cd 02 00 11 00 12 ce ff ff ff ff 13 00 14 00"
-                                       " 20 91 cd 01 18";
+static const char select_written[] = "ce 00 00 00 1b 82 00 01 01 04 86 10 cd 02 00 11 00 12 ce ff ff ff ff 13 00 14 00"
+                                     " 20 91 cd 01 18";
 static const char every_key[] = "ce 00 00 00 2a 83 00 01 01 08 05 09 8e 10 01 11 02 12 03 13 04 14 05 15 01 20 91 06"
                                 " 21 91 07 22 a1 66 23 a1 75 27 a1 65 28 90 30 c0 31 a1 78";
 
@@ -144,9 +146,49 @@ static const frame_case refused_frames[] = {
     {"01 90", LAK_BAD_MAP},
     {"05 82 00 40 00 40", LAK_KEY_TWICE},
     {"01 80", LAK_BAD_CODE},
+    {"05 81 00 cd 7f ff", LAK_BAD_CODE},
+    {"05 81 00 cd 90 00", LAK_BAD_CODE},
     {"05 82 00 40 01 a0", LAK_BAD_HELD},
-    {"03 81 00 01", LAK_KEY_MISSING}
+    {"03 81 00 01", LAK_KEY_MISSING},
 };
+
+typedef struct {
+    uint64_t code;
+    const char *text;
+} kind_case;
+
+/* A frame of each kind, with exactly the keys that it requires. */
+static const kind_case kinds[] = {
+    {LAK_CODE_OK, "03 81 00 00"},
+    {LAK_CODE_SELECT, "11 81 00 01 86 10 01 11 02 12 03 13 04 14 05 20 91 06"},
+    {LAK_CODE_INSERT, "09 81 00 02 82 10 01 21 91 07"},
+    {LAK_CODE_REPLACE, "09 81 00 03 82 10 01 21 91 07"},
+    {LAK_CODE_UPDATE, "0e 81 00 04 84 10 01 11 02 20 91 06 21 91 07"},
+    {LAK_CODE_DELETE, "0b 81 00 05 83 10 01 11 02 20 91 06"},
+    {LAK_CODE_CALL_16, "0a 81 00 06 82 22 a1 66 21 91 07"},
+    {LAK_CODE_AUTH, "0a 81 00 07 82 23 a1 75 21 91 07"},
+    {LAK_CODE_EVAL, "0a 81 00 08 82 27 a1 65 21 91 07"},
+    {LAK_CODE_UPSERT, "0b 81 00 09 83 10 01 21 91 07 28 90"},
+    {LAK_CODE_CALL, "0a 81 00 0a 82 22 a1 66 21 91 07"},
+    {LAK_CODE_PING, "03 81 00 40"},
+    {LAK_CODE_ERROR_FIRST, "09 81 00 cd 80 00 81 31 a1 78"},
+    {LAK_CODE_ERROR_LAST, "09 81 00 cd 8f ff 81 31 a1 78"},
+};
+
+static void check_kinds(void)
+{
+    size_t i;
+    for (i = 0; i < sizeof kinds / sizeof kinds[0]; i++) {
+        lak_frame_answer a;
+        hex(&first, kinds[i].text);
+        a = lak_frame_read(first.at, first.n);
+        expect(a.number == LAK_OK && a.length == first.n && a.frame.code == kinds[i].code, "lak_frame_read",
+               kinds[i].text);
+        fresh();
+        expect(lak_frame_write(a.frame, first.at, first.n, out, sizeof out).number == LAK_OK, "lak_frame_write",
+               kinds[i].text);
+    }
+}
 
 static bool is_number(lak_number n, uint64_t value)
 {
@@ -178,10 +220,10 @@ static bool no_place(lak_place p)
 /* Field by field, since the bytes between fields may be anything. */
 static bool is_empty(lak_frame f)
 {
-    return f.code == 0 && no_number(f.sync) && no_number(f.schema_version) && no_number(f.space) && no_number(f.index) &&
-           no_number(f.limit) && no_number(f.offset) && no_number(f.iterator) && no_number(f.index_base) && no_place(f.key) &&
-           no_place(f.tuple) && no_place(f.function) && no_place(f.user) && no_place(f.expression) && no_place(f.ops) &&
-           no_place(f.data) && no_place(f.error);
+    return f.code == 0 && no_number(f.sync) && no_number(f.schema_version) && no_number(f.space) &&
+           no_number(f.index) && no_number(f.limit) && no_number(f.offset) && no_number(f.iterator) &&
+           no_number(f.index_base) && no_place(f.key) && no_place(f.tuple) && no_place(f.function) &&
+           no_place(f.user) && no_place(f.expression) && no_place(f.ops) && no_place(f.data) && no_place(f.error);
 }
 
 static void check_refused_frames(void)
@@ -191,7 +233,8 @@ static void check_refused_frames(void)
         lak_frame_answer a;
         hex(&first, refused_frames[i].text);
         a = lak_frame_read(first.at, first.n);
-        expect(a.number == refused_frames[i].number && a.length == 0 && is_empty(a.frame), "lak_frame_read", refused_frames[i].text);
+        expect(a.number == refused_frames[i].number && a.length == 0 && is_empty(a.frame), "lak_frame_read",
+               refused_frames[i].text);
     }
 }
 
@@ -202,12 +245,13 @@ static void check_select(void)
     hex(&first, select_of_001);
     a = lak_frame_read(first.at, first.n);
     expect(a.number == LAK_OK && a.length == 32 && a.frame.code == LAK_CODE_SELECT, "lak_frame_read", "select");
-    expect(is_number(a.frame.sync, 4) && is_number(a.frame.space, 512) && is_number(a.frame.limit, 4294967295u), "lak_frame_read",
-           "select's numbers");
+    expect(is_number(a.frame.sync, 4) && is_number(a.frame.space, 512) && is_number(a.frame.limit, 4294967295u),
+           "lak_frame_read", "select's numbers");
     expect(is_place(a.frame.key, 28, 4) && !a.frame.tuple.present && !a.frame.schema_version.present, "lak_frame_read",
            "select's places");
     fresh();
-    expect(gave(lak_frame_write(a.frame, first.at, first.n, out, 32), LAK_OK, 0, select_rewritten), "lak_frame_write", "select");
+    expect(gave(lak_frame_write(a.frame, first.at, first.n, out, 32), LAK_OK, 0, select_written), "lak_frame_write",
+           "select");
     expect(lak_frame_read(first.at, 33).length == 32, "lak_frame_read", "select and one more byte");
     expect(lak_frame_read(first.at, 31).number == LAK_INCOMPLETE, "lak_frame_read", "select, cut");
 }
@@ -222,15 +266,19 @@ static void check_every_key(void)
     f = a.frame;
     expect(a.number == LAK_OK && a.length == first.n && f.code == LAK_CODE_SELECT, "lak_frame_read", "every key");
     expect(is_number(f.sync, 8) && is_number(f.schema_version, 9) && is_number(f.space, 1) && is_number(f.index, 2) &&
-               is_number(f.limit, 3) && is_number(f.offset, 4) && is_number(f.iterator, 5) && is_number(f.index_base, 1),
+               is_number(f.limit, 3) && is_number(f.offset, 4) && is_number(f.iterator, 5) &&
+               is_number(f.index_base, 1),
            "lak_frame_read", "every number");
-    expect(is_place(f.key, 26, 2) && is_place(f.tuple, 29, 2) && is_place(f.function, 32, 2) && is_place(f.user, 35, 2) &&
-               is_place(f.expression, 38, 2) && is_place(f.ops, 41, 1) && is_place(f.data, 43, 1) && is_place(f.error, 45, 2),
+    expect(is_place(f.key, 26, 2) && is_place(f.tuple, 29, 2) && is_place(f.function, 32, 2) &&
+               is_place(f.user, 35, 2) && is_place(f.expression, 38, 2) && is_place(f.ops, 41, 1) &&
+               is_place(f.data, 43, 1) && is_place(f.error, 45, 2),
            "lak_frame_read", "every place");
     fresh();
-    expect(gave(lak_frame_write(f, first.at, first.n, out, first.n), LAK_OK, 0, every_key), "lak_frame_write", "every key");
+    expect(gave(lak_frame_write(f, first.at, first.n, out, first.n), LAK_OK, 0, every_key), "lak_frame_write",
+           "every key");
     fresh();
-    expect(gave(lak_frame_write(f, first.at, first.n, out, first.n - 1), LAK_SHORT_BUFFER, 0, ""), "lak_frame_write", "one byte short");
+    expect(gave(lak_frame_write(f, first.at, first.n, out, first.n - 1), LAK_SHORT_BUFFER, 0, ""), "lak_frame_write",
+           "one byte short");
 }
 
 /* An insert of the bytes of `first`, all of them. */
@@ -286,7 +334,8 @@ static const update_case updates[] = {
     {"91 cd 00 05", "91 93 a1 2b 00 01", 0, LAK_OK, 0, "91 06", "91 93 a1 3d 00 cd 00 05"},
     {"93 01 02 03", "91 93 a1 23 01 05", 0, LAK_OK, 0, "91 01", "92 93 a1 21 01 03 93 a1 21 01 02"},
     {"91 01", "91 93 a1 3d 01 09", 0, LAK_OK, 0, "92 01 09", "91 93 a1 23 01 01"},
-    {"91 a3 61 62 63", "91 95 a1 3a 00 01 01 a2 58 59", 0, LAK_OK, 0, "91 a4 61 58 59 63", "91 93 a1 3d 00 a3 61 62 63"},
+    {"91 a3 61 62 63", "91 95 a1 3a 00 01 01 a2 58 59", 0, LAK_OK, 0, "91 a4 61 58 59 63",
+     "91 93 a1 3d 00 a3 61 62 63"},
     {"91 00", "91 93 a1 2d 00 01", 0, LAK_OK, 0, "91 ff", "91 93 a1 3d 00 00"},
     {"dd 00 00 00 01 07", "90", 0, LAK_OK, 0, "91 07", "90"},
     {"90", "90", 0, LAK_OK, 0, "90", "90"},
@@ -296,7 +345,7 @@ static const update_case updates[] = {
     {"91 01", "91 93 a1 2b 05 01", 0, LAK_NO_FIELD, 0, "", ""},
     {"91 01", "92 93 a1 3d 00 05 93 a1 2b 07 01", 0, LAK_NO_FIELD, 1, "", ""},
     {"91 a0", "91 93 a1 2b 00 01", 0, LAK_UNSUITED, 0, "", ""},
-    {"91 cf ff ff ff ff ff ff ff ff", "91 93 a1 2b 00 01", 0, LAK_OUT_OF_RANGE, 0, "", ""}
+    {"91 cf ff ff ff ff ff ff ff ff", "91 93 a1 2b 00 01", 0, LAK_OUT_OF_RANGE, 0, "", ""},
 };
 
 static void check_updates(void)
@@ -316,11 +365,13 @@ static void check_updates(void)
         hex(&wanted, u->after);
         fresh();
         a = lak_update(first.at, first.n, second.at, second.n, u->base, out, wanted.n - (wanted.n > 0));
-        expect(gave(a, u->number ? u->number : (uint32_t)LAK_SHORT_BUFFER, u->operation, ""), "lak_update, short", u->tuple);
+        expect(gave(a, u->number ? u->number : (uint32_t)LAK_SHORT_BUFFER, u->operation, ""), "lak_update, short",
+               u->tuple);
         hex(&wanted, u->undo);
         fresh();
         a = lak_undo(first.at, first.n, second.at, second.n, u->base, out, wanted.n - (wanted.n > 0));
-        expect(gave(a, u->number ? u->number : (uint32_t)LAK_SHORT_BUFFER, u->operation, ""), "lak_undo, short", u->tuple);
+        expect(gave(a, u->number ? u->number : (uint32_t)LAK_SHORT_BUFFER, u->operation, ""), "lak_undo, short",
+               u->tuple);
     }
 }
 
@@ -353,19 +404,75 @@ static void check_64_fields(void)
     first.n = 67;
     hex(&second, "90");
     fresh();
-    expect(lak_update(first.at, first.n, second.at, second.n, 0, out, LAK_TUPLE_ROOM).number == LAK_OK && holds_only(&first),
+    expect(lak_update(first.at, first.n, second.at, second.n, 0, out, LAK_TUPLE_ROOM).number == LAK_OK &&
+               holds_only(&first),
            "lak_update", "64 fields");
     hex(&second, "91 93 a1 21 00 01");
     fresh();
-    expect(gave(lak_update(first.at, first.n, second.at, second.n, 0, out, LAK_TUPLE_ROOM), LAK_TOO_LARGE, 0, ""), "lak_update",
-           "65 fields");
+    expect(gave(lak_update(first.at, first.n, second.at, second.n, 0, out, LAK_TUPLE_ROOM), LAK_TOO_LARGE, 0, ""),
+           "lak_update", "65 fields");
     hex(&second, "92 93 a1 23 00 40 93 a1 21 00 01");
     fresh();
-    expect(gave(lak_undo(first.at, first.n, second.at, second.n, 0, out, LAK_UNDO_ROOM), LAK_LONG_UNDO, 0, ""), "lak_undo",
-           "65 operations");
+    expect(gave(lak_undo(first.at, first.n, second.at, second.n, 0, out, LAK_UNDO_ROOM), LAK_LONG_UNDO, 0, ""),
+           "lak_undo", "65 operations");
     fresh();
-    expect(gave(lak_update(first.at, first.n, second.at, second.n, 0, out, LAK_TUPLE_ROOM), LAK_OK, 0, "91 01"), "lak_update",
-           "whose undo list is too long");
+    expect(gave(lak_update(first.at, first.n, second.at, second.n, 0, out, LAK_TUPLE_ROOM), LAK_OK, 0, "91 01"),
+           "lak_update", "whose undo list is too long");
+}
+
+/* ---- the longest that is written */
+
+/* An array or bin whose header is this, filled up with zeros to `n` bytes. */
+static void filled(bytes *b, const char *header, size_t n)
+{
+    hex(b, header);
+    memset(b->at + b->n, 0, n - b->n);
+    b->n = n;
+}
+
+static void check_longest_frame(void)
+{
+    filled(&first, "dc ea 56", 59993);
+    fresh();
+    expect(lak_frame_write(insert(1), first.at, first.n, out, LAK_FRAME_ROOM).length == LAK_FRAME_ROOM,
+           "lak_frame_write", "longest");
+    fresh();
+    expect(gave(lak_frame_write(insert(1), first.at, first.n, out, LAK_FRAME_ROOM - 1), LAK_SHORT_BUFFER, 0, ""),
+           "lak_frame_write", "longest, short");
+    filled(&first, "dc ea 57", 59994);
+    refuses(insert(1), LAK_BAD_SIZE, "one byte too long");
+}
+
+static void check_longest_tuple(void)
+{
+    hex(&second, "90");
+    filled(&first, "91 c5 3f fc", 16384);
+    fresh();
+    expect(lak_update(first.at, first.n, second.at, second.n, 0, out, LAK_TUPLE_ROOM).length == LAK_TUPLE_ROOM,
+           "lak_update", "longest");
+    filled(&first, "91 c5 3f fd", 16385);
+    fresh();
+    expect(gave(lak_update(first.at, first.n, second.at, second.n, 0, out, LAK_TUPLE_ROOM), LAK_BAD_TUPLE, 0, ""),
+           "lak_update", "one byte too long");
+}
+
+/* A field of 16,383 bytes is assigned twice; first a bin of the length that makes the undo list so long. */
+static lak_answer long_undo(const char *list, size_t n)
+{
+    static const uint8_t assign_0[] = {0x93, 0xa1, 0x3d, 0x00, 0x00};
+    filled(&first, "91 c5 3f fc", 16384);
+    filled(&second, list, n);
+    memcpy(second.at + second.n, assign_0, sizeof assign_0);
+    second.n += sizeof assign_0;
+    fresh();
+    return lak_undo(first.at, first.n, second.at, second.n, 0, out, LAK_UNDO_ROOM);
+}
+
+static void check_longest_undo(void)
+{
+    expect(long_undo("92 93 a1 3d 00 c5 3f f5", 5 + 16376).length == LAK_UNDO_ROOM, "lak_undo", "longest");
+    expect(gave(long_undo("92 93 a1 3d 00 c5 3f f6", 5 + 16377), LAK_LONG_UNDO, 0, ""), "lak_undo",
+           "one byte too long");
 }
 
 /* ---- a null pointer with length 0, and the words */
@@ -380,7 +487,8 @@ static void check_null(void)
     expect(lak_frame_read(NULL, 0).number == LAK_INCOMPLETE, "lak_frame_read", "NULL");
     expect(lak_frame_write(ping, NULL, 0, NULL, 0).number == LAK_SHORT_BUFFER, "lak_frame_write", "NULL");
     fresh();
-    expect(gave(lak_frame_write(ping, NULL, 0, out, 9), LAK_OK, 0, "ce 00 00 00 04 81 00 40 80"), "lak_frame_write", "ping");
+    expect(gave(lak_frame_write(ping, NULL, 0, out, 9), LAK_OK, 0, "ce 00 00 00 04 81 00 40 80"), "lak_frame_write",
+           "ping");
     expect(lak_update(NULL, 0, second.at, 1, 0, NULL, 0).number == LAK_BAD_TUPLE, "lak_update", "NULL tuple");
     expect(lak_update(first.at, 2, NULL, 0, 0, NULL, 0).number == LAK_BAD_LIST, "lak_update", "NULL list");
     expect(lak_update(first.at, 2, second.at, 1, 0, NULL, 0).number == LAK_SHORT_BUFFER, "lak_update", "NULL out");
@@ -405,6 +513,7 @@ static void check_words(void)
 int main(void)
 {
     check_values();
+    check_kinds();
     check_refused_frames();
     check_select();
     check_every_key();
@@ -412,6 +521,9 @@ int main(void)
     check_updates();
     check_taking_back();
     check_64_fields();
+    check_longest_frame();
+    check_longest_tuple();
+    check_longest_undo();
     check_null();
     check_words();
     printf("%d passed, %d failed\n", passed, failed);
