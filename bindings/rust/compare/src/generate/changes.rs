@@ -152,7 +152,10 @@ pub fn list(r: &mut Random, tuple: &[u8], base: u64) -> Vec<u8> {
     };
     let mut fields = updates::fields(tuple).unwrap_or_default();
     let mut operations: Vec<Vec<u8>> = Vec::new();
-    for _ in 0..count {
+    for _ in 0..2 * count {
+        if operations.len() == count {
+            break;
+        }
         let operation = operation(r, &fields, base);
         let alone = meant::array(&[&operation]);
         let before = fields.clone();
