@@ -18,7 +18,7 @@ pub fn damage(r: &mut Random, bytes: &mut Vec<u8>) {
     for _ in 0..r.within(1..=3) {
         let at = r.below(bytes.len());
         let end = (at + r.within(1..=4)).min(bytes.len());
-        match r.below(8) {
+        match r.below(9) {
             0 => bytes.truncate(at),
             1 => drop(bytes.drain(at..end)),
             2 => drop(bytes.splice(at..at, r.bytes(1))),
@@ -27,6 +27,7 @@ pub fn damage(r: &mut Random, bytes: &mut Vec<u8>) {
             _ if bytes.is_empty() => bytes.push(*r.pick(&TELLING)),
             5 => bytes[at] ^= 1 << r.below(8),
             6 => bytes[at] = r.word() as u8,
+            7 => bytes[at] = 0xc1,
             _ => bytes[at] = *r.pick(&TELLING),
         }
     }
