@@ -1,0 +1,221 @@
+//! The five calls, as the C interface answers them; and the three that are held against each other.
+
+use crate::reference::updates::Refusal;
+use crate::reference::values::{self, Meaning, Value};
+use crate::reference::{frames, updates};
+use laksubinat::raw::{self, Answer, FrameAnswer, ValueAnswer};
+use laksubinat::{Error, Frame};
+
+pub trait Calls {
+    fn value_read(&self, bytes: &[u8]) -> ValueAnswer;
+    fn frame_read(&self, bytes: &[u8]) -> FrameAnswer;
+    fn frame_write(&self, frame: raw::Frame, bytes: &[u8], out: &mut [u8]) -> Answer;
+    fn update(&self, tuple: &[u8], list: &[u8], base: u64, out: &mut [u8]) -> Answer;
+    fn undo(&self, tuple: &[u8], list: &[u8], base: u64, out: &mut [u8]) -> Answer;
+}
+
+/// The second implementation.
+pub struct Reference;
+
+/// The static library through its C interface.
+pub struct Interface;
+
+/// The static library through the crate's safe functions.
+pub struct Bindings;
+
+impl Calls for Reference {
+    fn value_read(&self, bytes: &[u8]) -> ValueAnswer {
+        match values::read(bytes, 16) {
+            None => ValueAnswer { number: 4, ..ValueAnswer::default() },
+            Some(value) => value_answer(&value),
+        }
+    }
+
+    fn frame_read(&self, bytes: &[u8]) -> FrameAnswer {
+        match frames::read(bytes) {
+            Ok((record, length)) => FrameAnswer { number: 0, length: length as u64, frame: frame_of(&record) },
+            Err(number) => FrameAnswer { number, ..FrameAnswer::default() },
+        }
+    }
+
+    fn frame_write(&self, frame: raw::Frame, bytes: &[u8], out: &mut [u8]) -> Answer {
+        deliver(frames::write(&record_of(frame), bytes).map_err(Refusal::from), out)
+    }
+
+    fn update(&self, tuple: &[u8], list: &[u8], base: u64, out: &mut [u8]) -> Answer {
+        deliver(updates::update(tuple, list, base), out)
+    }
+
+    fn undo(&self, tuple: &[u8], list: &[u8], base: u64, out: &mut [u8]) -> Answer {
+        deliver(updates::undo(tuple, list, base), out)
+    }
+}
+
+/// Writes the bytes into the lent buffer; 18 where it is too short.
+fn deliver(result: Result<Vec<u8>, Refusal>, out: &mut [u8]) -> Answer {
+    let refused = |refusal: Refusal| Answer { number: refusal.number, operation: refusal.operation, length: 0 };
+    match result {
+        Err(refusal) => refused(refusal),
+        Ok(bytes) if bytes.len() > out.len() => refused(18.into()),
+        Ok(bytes) => {
+            out[..bytes.len()].copy_from_slice(&bytes);
+            Answer { number: 0, operation: 0, length: bytes.len() as u64 }
+        }
+    }
+}
+
+fn value_answer(value: &Value) -> ValueAnswer {
+    let scalar = |kind, bits| ValueAnswer { kind, bits, ..ValueAnswer::default() };
+    let part = |kind, part: &[u8]| ValueAnswer {
+        kind,
+        start: Value::start_of(part, value.bytes) as u64,
+        size: part.len() as u64,
+        ..ValueAnswer::default()
+    };
+    let answer = match value.meaning {
+        Meaning::Nil => scalar(0, 0),
+        Meaning::Boolean(truth) => scalar(1, truth.into()),
+        Meaning::Integer(n) if n >= 0 => scalar(2, n as u64),
+        Meaning::Integer(n) => scalar(3, n as u64),
+        Meaning::Float32(bits) => scalar(4, bits.into()),
+        Meaning::Float64(bits) => scalar(5, bits),
+        Meaning::String(content) => part(6, content),
+        Meaning::Bin(content) => part(7, content),
+        Meaning::Ext(ext_type, content) => ValueAnswer { ext_type, ..part(8, content) },
+        Meaning::Array(_) => part(9, value.bytes),
+        Meaning::Map(_) => part(10, value.bytes),
+    };
+    ValueAnswer { length: value.bytes.len() as u64, ..answer }
+}
+
+/// A record's numbers by their keys in header and body.
+pub fn numbers(frame: &mut raw::Frame) -> [(u8, &mut raw::Number); 8] {
+    [
+        (0x01, &mut frame.sync),
+        (0x05, &mut frame.schema_version),
+        (0x10, &mut frame.space),
+        (0x11, &mut frame.index),
+        (0x12, &mut frame.limit),
+        (0x13, &mut frame.offset),
+        (0x14, &mut frame.iterator),
+        (0x15, &mut frame.index_base),
+    ]
+}
+
+/// A record's places by their body keys.
+pub fn places(frame: &mut raw::Frame) -> [(u8, &mut raw::Place); 8] {
+    [
+        (0x20, &mut frame.key),
+        (0x21, &mut frame.tuple),
+        (0x22, &mut frame.function),
+        (0x23, &mut frame.user),
+        (0x27, &mut frame.expression),
+        (0x28, &mut frame.ops),
+        (0x30, &mut frame.data),
+        (0x31, &mut frame.error),
+    ]
+}
+
+fn frame_of(record: &frames::Record) -> raw::Frame {
+    let mut frame = raw::Frame { code: record.code, ..raw::Frame::default() };
+    for (key, number) in numbers(&mut frame) {
+        *number = record.numbers.get(&key).copied().into();
+    }
+    for (key, place) in places(&mut frame) {
+        if let Some(&(start, length)) = record.places.get(&key) {
+            *place = raw::Place { present: true, start, length };
+        }
+    }
+    frame
+}
+
+fn record_of(mut frame: raw::Frame) -> frames::Record {
+    let numbers = numbers(&mut frame).into_iter().filter(|(_, number)| number.present);
+    let numbers = numbers.map(|(key, number)| (key, number.value)).collect();
+    let places = places(&mut frame).into_iter().filter(|(_, place)| place.present);
+    let places = places.map(|(key, place)| (key, (place.start, place.length))).collect();
+    frames::Record { code: frame.code, numbers, places }
+}
+
+// SAFETY of the five: each pointer and length are those of a slice, as the interface asks.
+impl Calls for Interface {
+    fn value_read(&self, bytes: &[u8]) -> ValueAnswer {
+        unsafe { raw::lak_value_read(bytes.as_ptr(), bytes.len()) }
+    }
+
+    fn frame_read(&self, bytes: &[u8]) -> FrameAnswer {
+        unsafe { raw::lak_frame_read(bytes.as_ptr(), bytes.len()) }
+    }
+
+    fn frame_write(&self, frame: raw::Frame, bytes: &[u8], out: &mut [u8]) -> Answer {
+        unsafe { raw::lak_frame_write(frame, bytes.as_ptr(), bytes.len(), out.as_mut_ptr(), out.len()) }
+    }
+
+    fn update(&self, tuple: &[u8], list: &[u8], base: u64, out: &mut [u8]) -> Answer {
+        let (n, m) = (tuple.len(), list.len());
+        unsafe { raw::lak_update(tuple.as_ptr(), n, list.as_ptr(), m, base, out.as_mut_ptr(), out.len()) }
+    }
+
+    fn undo(&self, tuple: &[u8], list: &[u8], base: u64, out: &mut [u8]) -> Answer {
+        let (n, m) = (tuple.len(), list.len());
+        unsafe { raw::lak_undo(tuple.as_ptr(), n, list.as_ptr(), m, base, out.as_mut_ptr(), out.len()) }
+    }
+}
+
+impl Calls for Bindings {
+    fn value_read(&self, bytes: &[u8]) -> ValueAnswer {
+        match laksubinat::read_value(bytes) {
+            Ok((value, length)) => ValueAnswer { length: length as u64, ..bound_value(value, bytes) },
+            Err(error) => ValueAnswer { number: error.number(), ..ValueAnswer::default() },
+        }
+    }
+
+    fn frame_read(&self, bytes: &[u8]) -> FrameAnswer {
+        match laksubinat::read_frame(bytes) {
+            Ok((frame, length)) => FrameAnswer { number: 0, length: length as u64, frame: frame.into() },
+            Err(error) => FrameAnswer { number: error.number(), ..FrameAnswer::default() },
+        }
+    }
+
+    fn frame_write(&self, frame: raw::Frame, bytes: &[u8], out: &mut [u8]) -> Answer {
+        bound(laksubinat::write_frame(&Frame::from(frame), bytes, out))
+    }
+
+    fn update(&self, tuple: &[u8], list: &[u8], base: u64, out: &mut [u8]) -> Answer {
+        bound(laksubinat::update(tuple, list, base, out))
+    }
+
+    fn undo(&self, tuple: &[u8], list: &[u8], base: u64, out: &mut [u8]) -> Answer {
+        bound(laksubinat::undo(tuple, list, base, out))
+    }
+}
+
+fn bound(result: Result<usize, Error>) -> Answer {
+    match result {
+        Ok(length) => Answer { length: length as u64, ..Answer::default() },
+        Err(error) => Answer { number: error.number(), operation: error.operation().unwrap_or(0) as u32, length: 0 },
+    }
+}
+
+fn bound_value(value: laksubinat::Value, bytes: &[u8]) -> ValueAnswer {
+    use laksubinat::Value as V;
+    let scalar = |kind, bits| ValueAnswer { kind, bits, ..ValueAnswer::default() };
+    let part = |kind, part: &[u8]| ValueAnswer {
+        start: Value::start_of(part, bytes) as u64,
+        size: part.len() as u64,
+        ..scalar(kind, 0)
+    };
+    match value {
+        V::Nil => scalar(0, 0),
+        V::Boolean(truth) => scalar(1, truth.into()),
+        V::Unsigned(n) => scalar(2, n),
+        V::Negative(n) => scalar(3, n as u64),
+        V::Float32(float) => scalar(4, float.to_bits().into()),
+        V::Float64(float) => scalar(5, float.to_bits()),
+        V::String(content) => part(6, content),
+        V::Bin(content) => part(7, content),
+        V::Ext(kind, content) => ValueAnswer { ext_type: kind as u8, ..part(8, content) },
+        V::Array(content) => part(9, content),
+        V::Map(content) => part(10, content),
+    }
+}

@@ -1,0 +1,223 @@
+//! One call with its inputs; what came of it; the difference between two of them.
+
+use crate::calls::{numbers, places, Calls};
+use crate::reference::values::{self, Meaning};
+use laksubinat::raw::{self, Answer, FrameAnswer, ValueAnswer};
+use std::fmt;
+
+/// The inputs of an update or undo call.
+#[derive(Clone)]
+pub struct Change {
+    pub tuple: Vec<u8>,
+    pub list: Vec<u8>,
+    pub base: u64,
+    pub room: usize,
+}
+
+#[derive(Clone)]
+#[allow(clippy::large_enum_variant)] // one lives at a time
+pub enum Case {
+    Value { bytes: Vec<u8> },
+    Read { bytes: Vec<u8> },
+    Write { frame: raw::Frame, bytes: Vec<u8>, room: usize },
+    Update(Change),
+    Undo(Change),
+}
+
+/// The names of the calls, in the order of `Case`.
+pub const CALLS: [&str; 5] = ["value_read", "frame_read", "frame_write", "update", "undo"];
+
+#[derive(Clone, Debug, PartialEq)]
+#[allow(clippy::large_enum_variant)] // one lives at a time
+pub enum Reply {
+    Value(ValueAnswer),
+    Read(FrameAnswer),
+    Written(Answer),
+}
+
+/// A call's answer, and the lent buffer afterwards with the guards on both sides of it.
+#[derive(Clone, PartialEq)]
+pub struct Outcome {
+    pub reply: Reply,
+    buffer: Vec<u8>,
+}
+
+/// Bytes on each side of a lent buffer, which no call may touch.
+const GUARD: usize = 24;
+
+/// The longest room that a case may have.
+pub const MOST_ROOM: usize = 65_536;
+
+/// What lent buffers hold before a call: no two neighbours are equal.
+static PATTERN: [u8; MOST_ROOM + 2 * GUARD] = {
+    let mut pattern = [0; MOST_ROOM + 2 * GUARD];
+    let mut at = 0;
+    while at < pattern.len() {
+        pattern[at] = (at % 251) as u8 ^ 0x55;
+        at += 1;
+    }
+    pattern
+};
+
+impl Case {
+    pub fn call(&self) -> usize {
+        match self {
+            Case::Value { .. } => 0,
+            Case::Read { .. } => 1,
+            Case::Write { .. } => 2,
+            Case::Update(_) => 3,
+            Case::Undo(_) => 4,
+        }
+    }
+
+    /// Makes the call, on a buffer filled with the pattern.
+    pub fn run(&self, calls: &dyn Calls) -> Outcome {
+        let room = match self {
+            Case::Value { .. } | Case::Read { .. } => 0,
+            Case::Write { room, .. } => *room,
+            Case::Update(change) | Case::Undo(change) => change.room,
+        };
+        let mut buffer = PATTERN[..room + 2 * GUARD].to_vec();
+        let out = &mut buffer[GUARD..GUARD + room];
+        let reply = match self {
+            Case::Value { bytes } => Reply::Value(calls.value_read(bytes)),
+            Case::Read { bytes } => Reply::Read(calls.frame_read(bytes)),
+            Case::Write { frame, bytes, .. } => Reply::Written(calls.frame_write(*frame, bytes, out)),
+            Case::Update(change) => Reply::Written(calls.update(&change.tuple, &change.list, change.base, out)),
+            Case::Undo(change) => Reply::Written(calls.undo(&change.tuple, &change.list, change.base, out)),
+        };
+        Outcome { reply, buffer }
+    }
+
+    /// The inputs that are bytes, for making them smaller.
+    pub fn parts(&mut self) -> Vec<&mut Vec<u8>> {
+        match self {
+            Case::Value { bytes } | Case::Read { bytes } | Case::Write { bytes, .. } => vec![bytes],
+            Case::Update(change) | Case::Undo(change) => vec![&mut change.tuple, &mut change.list],
+        }
+    }
+}
+
+impl Outcome {
+    pub fn number(&self) -> u32 {
+        match &self.reply {
+            Reply::Value(answer) => answer.number,
+            Reply::Read(answer) => answer.number,
+            Reply::Written(answer) => answer.number,
+        }
+    }
+
+    pub fn length(&self) -> usize {
+        match &self.reply {
+            Reply::Value(answer) => answer.length as usize,
+            Reply::Read(answer) => answer.length as usize,
+            Reply::Written(answer) => answer.length as usize,
+        }
+    }
+
+    /// The bytes written, as the reference says; a library's length may be any number.
+    pub fn written(&self) -> &[u8] {
+        &self.buffer[GUARD..GUARD + self.length()]
+    }
+}
+
+pub fn hex(bytes: &[u8]) -> String {
+    bytes.iter().map(|byte| format!("{byte:02x}")).collect()
+}
+
+/// The bytes that hexadecimal digits stand for, gaps passed over.
+pub fn unhex(digits: &str) -> Vec<u8> {
+    let digits: Vec<_> = digits.chars().filter_map(|digit| digit.to_digit(16)).collect();
+    digits.chunks(2).map(|pair| (pair[0] * 16 + pair[1]) as u8).collect()
+}
+
+impl fmt::Display for Change {
+    fn fmt(&self, f: &mut fmt::Formatter<'_>) -> fmt::Result {
+        let Change { tuple, list, base, room } = self;
+        write!(f, "tuple {}\nlist {}\nindex base {base}\nroom {room}", hex(tuple), hex(list))
+    }
+}
+
+impl fmt::Display for Case {
+    fn fmt(&self, f: &mut fmt::Formatter<'_>) -> fmt::Result {
+        writeln!(f, "{}", CALLS[self.call()])?;
+        match self {
+            Case::Value { bytes } | Case::Read { bytes } => write!(f, "bytes {}", hex(bytes)),
+            Case::Write { frame, bytes, room } => write!(f, "{}\nbytes {}\nroom {room}", shown(*frame), hex(bytes)),
+            Case::Update(change) | Case::Undo(change) => change.fmt(f),
+        }
+    }
+}
+
+impl fmt::Display for Outcome {
+    fn fmt(&self, f: &mut fmt::Formatter<'_>) -> fmt::Result {
+        match &self.reply {
+            Reply::Value(answer) => return write!(f, "{answer:?}"),
+            Reply::Read(answer) => {
+                return write!(f, "number {}, length {}, {}", answer.number, answer.length, shown(answer.frame))
+            }
+            Reply::Written(answer) => write!(f, "{answer:?}")?,
+        }
+        let end = GUARD.saturating_add(self.length());
+        write!(f, " {}", hex(self.buffer.get(GUARD..end).unwrap_or_default()))?;
+        let outside = |at: &usize| !(GUARD..end).contains(at) && self.buffer[*at] != PATTERN[*at];
+        match (0..self.buffer.len()).find(outside) {
+            Some(at) => write!(f, ", and byte {} of the buffer changed", at as i64 - GUARD as i64),
+            None => Ok(()),
+        }
+    }
+}
+
+/// A record's code and what it has, by key.
+fn shown(mut frame: raw::Frame) -> String {
+    let mut words = format!("code {:#x}", frame.code);
+    for (key, number) in numbers(&mut frame).into_iter().filter(|(_, number)| number.present) {
+        words += &format!(", {key:#04x}: {}", number.value);
+    }
+    for (key, place) in places(&mut frame).into_iter().filter(|(_, place)| place.present) {
+        words += &format!(", {key:#04x}: {} bytes from {}", place.length, place.start);
+    }
+    words
+}
+
+/// Makes the case smaller for as long as it still fails: arrays lose items, then bytes are cut out, halves first.
+pub fn shrink(case: &Case, fails: impl Fn(&Case) -> bool) -> Case {
+    let mut best = case.clone();
+    for part in 0..best.parts().len() {
+        while let Some(smaller) = fewer(&mut best, part).into_iter().find(&fails) {
+            best = smaller;
+        }
+    }
+    for part in 0..best.parts().len() {
+        let mut step = best.parts()[part].len().div_ceil(2);
+        while step > 0 {
+            let mut at = 0;
+            while at + step <= best.parts()[part].len() {
+                let mut smaller = best.clone();
+                smaller.parts()[part].drain(at..at + step);
+                if fails(&smaller) {
+                    best = smaller;
+                } else {
+                    at += step;
+                }
+            }
+            step /= 2;
+        }
+    }
+    best
+}
+
+/// The case with one item less in the array that a part is, for each of its items.
+fn fewer(case: &mut Case, part: usize) -> Vec<Case> {
+    let bytes = case.parts()[part].clone();
+    let Some(Meaning::Array(items)) = values::whole(&bytes, 16).map(|value| value.meaning) else { return Vec::new() };
+    let items: Vec<_> = items.iter().map(|item| item.bytes).collect();
+    let without = |at| values::array(&[&items[..at], &items[at + 1..]].concat());
+    (0..items.len())
+        .map(|at| {
+            let mut smaller = case.clone();
+            *smaller.parts()[part] = without(at);
+            smaller
+        })
+        .collect()
+}

@@ -1,0 +1,163 @@
+//! The comparison: rounds of random cases, each made with the library, by both its interfaces, and with the reference.
+
+use crate::calls::{self, Bindings, Calls, Interface, Reference};
+use crate::cases::{shrink, Case, Change, Outcome, Reply, CALLS, MOST_ROOM};
+use crate::generate::{changes, frames, room, values};
+use crate::random::Random;
+use crate::sequence;
+use laksubinat::raw;
+use std::fmt;
+
+/// How often each call gave each number, 0 for accepted.
+pub type Counts = [[u64; 19]; 5];
+
+/// The numbers that each call can give.
+const NUMBERS: [&[usize]; 5] = [
+    &[0, 4],
+    &[0, 1, 2, 3, 4, 5, 6, 7, 8, 9, 10],
+    &[0, 3, 4, 8, 9, 10, 18],
+    &[0, 11, 12, 13, 14, 15, 16, 18],
+    &[0, 11, 12, 13, 14, 15, 16, 17, 18],
+];
+
+/// What a library did otherwise than it should.
+pub struct Difference(pub String);
+
+/// The libraries that are held to the reference, and what was counted.
+pub struct Comparison<'a> {
+    libraries: Vec<(&'a str, &'a dyn Calls)>,
+    pub counts: Counts,
+    pub sequences: sequence::Counts,
+}
+
+impl Comparison<'static> {
+    /// The static library, through its C interface and through the crate's safe functions.
+    pub fn of_library() -> Self {
+        Comparison::of(vec![("C interface", &Interface), ("safe functions", &Bindings)])
+    }
+}
+
+impl<'a> Comparison<'a> {
+    pub fn of(libraries: Vec<(&'a str, &'a dyn Calls)>) -> Self {
+        Comparison { libraries, counts: Counts::default(), sequences: Default::default() }
+    }
+
+    /// One round: a few cases of one kind, chosen by seed and round alone.
+    pub fn round(&mut self, seed: u64, round: u64) -> Result<(), Difference> {
+        let r = &mut Random::of_round(seed, round);
+        match r.below(10) {
+            0 => self.same(&Case::Value { bytes: values::lent(r) }).map(drop),
+            1..=3 => self.same(&Case::Read { bytes: frames::lent(r) }).map(drop),
+            4 | 5 => self.write(r),
+            6..=8 => {
+                let change = changes::change(r);
+                self.roomy(r, Case::Undo(change.clone()))?;
+                self.roomy(r, Case::Update(change)).map(drop)
+            }
+            _ => sequence::run(r, self),
+        }
+    }
+
+    /// Makes the call with every library; the answer and the whole buffer must be the reference's.
+    pub fn same(&mut self, case: &Case) -> Result<Outcome, Difference> {
+        let expected = case.run(&Reference);
+        for (name, library) in &self.libraries {
+            if case.run(*library) != expected {
+                return Err(Difference::between(case, name, *library));
+            }
+        }
+        self.counts[case.call()][expected.number() as usize] += 1;
+        Ok(expected)
+    }
+
+    /// The same with a room near the length of what is to be written.
+    pub fn roomy(&mut self, r: &mut Random, mut case: Case) -> Result<Outcome, Difference> {
+        let wide = with_room(&mut case, MOST_ROOM).run(&Reference).length();
+        let room = room(r, wide);
+        self.same(with_room(&mut case, room))
+    }
+
+    /// Writes a record; what was written is read as the same, and written again identically.
+    fn write(&mut self, r: &mut Random) -> Result<(), Difference> {
+        let case = frames::record(r);
+        let outcome = self.roomy(r, case.clone())?;
+        if outcome.number() != 0 {
+            return Ok(());
+        }
+        let Case::Write { frame, bytes, .. } = case else { return Ok(()) };
+        let written = outcome.written().to_vec();
+        let Reply::Read(read) = self.same(&Case::Read { bytes: written.clone() })?.reply else { return Ok(()) };
+        if read.number != 0 || Seen::of(read.frame, &written) != Seen::of(frame, &bytes) {
+            return Err(Difference(format!("read back otherwise than written: {read:?}\nwritten from {frame:?}")));
+        }
+        let again = self.same(&Case::Write { frame: read.frame, bytes: written.clone(), room: written.len() })?;
+        match again.written() == written {
+            true => Ok(()),
+            false => Err(Difference(format!("written again otherwise: {again}\nwritten from {frame:?}"))),
+        }
+    }
+
+    /// The calls and numbers that can be given and were not.
+    pub fn missing(&self) -> Vec<String> {
+        let all = NUMBERS.iter().enumerate().flat_map(|(call, numbers)| numbers.iter().map(move |number| (call, *number)));
+        all.filter(|(call, number)| self.counts[*call][*number] == 0)
+            .map(|(call, number)| format!("{} never gave {number}", CALLS[call]))
+            .collect()
+    }
+}
+
+/// What a record shows: its numbers, and the bytes of each view. Absent ones show nothing, whatever they hold.
+#[derive(PartialEq)]
+struct Seen {
+    code: u64,
+    numbers: Vec<Option<u64>>,
+    views: Vec<Option<Vec<u8>>>,
+}
+
+impl Seen {
+    fn of(mut frame: raw::Frame, bytes: &[u8]) -> Seen {
+        let view = |place: raw::Place| bytes[place.start as usize..(place.start + place.length) as usize].to_vec();
+        Seen {
+            code: frame.code,
+            numbers: calls::numbers(&mut frame).map(|(_, number)| (*number).into()).to_vec(),
+            views: calls::places(&mut frame).map(|(_, place)| place.present.then(|| view(*place))).to_vec(),
+        }
+    }
+}
+
+fn with_room(case: &mut Case, wanted: usize) -> &Case {
+    match case {
+        Case::Value { .. } | Case::Read { .. } => {}
+        Case::Write { room, .. } | Case::Update(Change { room, .. }) | Case::Undo(Change { room, .. }) => *room = wanted,
+    }
+    case
+}
+
+impl Difference {
+    /// The smallest case found on which the two still differ and the reference still gives the same number.
+    fn between(case: &Case, name: &str, library: &dyn Calls) -> Difference {
+        let number = case.run(&Reference).number();
+        let case = shrink(case, |case| {
+            let expected = case.run(&Reference);
+            expected.number() == number && case.run(library) != expected
+        });
+        Difference(format!("{case}\n{name}: {}\nreference: {}", case.run(library), case.run(&Reference)))
+    }
+}
+
+impl fmt::Display for Comparison<'_> {
+    fn fmt(&self, f: &mut fmt::Formatter<'_>) -> fmt::Result {
+        write!(f, "{:12}", "number")?;
+        CALLS.iter().try_for_each(|call| write!(f, "{call:>12}"))?;
+        for number in 0..19 {
+            write!(f, "\n{number:<12}")?;
+            for (call, numbers) in NUMBERS.iter().enumerate() {
+                match numbers.contains(&number) {
+                    true => write!(f, "{:>12}", self.counts[call][number])?,
+                    false => write!(f, "{:>12}", "")?,
+                }
+            }
+        }
+        write!(f, "\n{}", self.sequences)
+    }
+}

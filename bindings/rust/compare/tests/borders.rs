@@ -1,0 +1,173 @@
+//! Each limit from both sides, with the answers written down by hand: the library and the second implementation.
+
+use compare::calls::{Bindings, Calls, Interface, Reference};
+use compare::cases::{unhex, Case, Change};
+use laksubinat::raw::{self, Frame, Number, Place};
+
+const ALL: [&dyn Calls; 3] = [&Reference, &Interface, &Bindings];
+
+fn gives(case: &Case, number: u32, what: &str) {
+    assert_eq!(ALL.map(|calls| case.run(calls).number()), [number; 3], "{what}");
+}
+
+/// Arrays inside each other, exactly so deep.
+fn deep(depth: usize) -> Vec<u8> {
+    [vec![0x91; depth - 1], vec![0x90]].concat()
+}
+
+/// A bin of exactly so many bytes with its header, from 258 on.
+fn bin(bytes: usize) -> Vec<u8> {
+    [vec![0xc5], ((bytes - 3) as u16).to_be_bytes().to_vec(), vec![0x61; bytes - 3]].concat()
+}
+
+fn array(items: &[Vec<u8>]) -> Vec<u8> {
+    [vec![0xdc], (items.len() as u16).to_be_bytes().to_vec(), items.concat()].concat()
+}
+
+fn frame(header: &str, body: &[u8]) -> Vec<u8> {
+    let header = unhex(header);
+    let size = (header.len() + body.len()) as u32;
+    [vec![0xce], size.to_be_bytes().to_vec(), header, body.to_vec()].concat()
+}
+
+#[test]
+fn values() {
+    gives(&Case::Value { bytes: deep(16) }, 0, "depth 16");
+    gives(&Case::Value { bytes: deep(17) }, 4, "depth 17");
+    gives(&Case::Value { bytes: [vec![0x91; 16], vec![0x00]].concat() }, 0, "a number 16 arrays down");
+    gives(&Case::Value { bytes: [vec![0x81, 0x00], deep(16)].concat() }, 4, "a map around 16");
+}
+
+#[test]
+fn frames_read() {
+    let read = |bytes: Vec<u8>, number, what: &str| gives(&Case::Read { bytes }, number, what);
+    read(frame("8200400a", &[deep(15), vec![0x80]].concat()), 0, "header 16 deep");
+    read(frame("8200400a", &[deep(16), vec![0x80]].concat()), 4, "header 17 deep");
+    read(frame("810040", &[vec![0x81, 0x0a], deep(15)].concat()), 0, "body 16 deep");
+    read(frame("810040", &[vec![0x81, 0x0a], deep(16)].concat()), 4, "body 17 deep");
+    read(frame("810040", &[vec![0x81, 0x0a], bin(59_995)].concat()), 0, "size 60,000");
+    read(frame("810040", &[vec![0x81, 0x0a], bin(59_996)].concat()), 3, "size 60,001");
+    for (header, body, number) in [
+        ("810040", "817f00", 0),
+        ("810040", "81cc8000", 6),
+        ("810040", "81d00500", 6),
+        ("810040", "8112ceffffffff", 0),
+        ("810040", "8112cf0000000100000000", 9),
+        ("810040", "81150180", 5),
+        ("810040", "811501", 0),
+        ("810040", "811502", 9),
+        ("8100cd8000", "8131a0", 0),
+        ("8100cd8fff", "8131a0", 0),
+        ("8100cd7fff", "8131a0", 8),
+        ("8100cd9000", "8131a0", 8),
+        ("8100d040", "", 8),
+        ("82004001cfffffffffffffffff", "", 0),
+        ("82004001ff", "", 9),
+        ("83004002000200", "", 7),
+        ("8300400200cd000200", "", 7),
+    ] {
+        read(frame(header, &unhex(body)), number, &format!("{header} {body}"));
+    }
+}
+
+#[test]
+fn frames_written() {
+    let answer =
+        |data: &[u8]| Frame { data: Place { present: true, start: 0, length: data.len() as u64 }, ..Frame::default() };
+    let write =
+        |bytes: Vec<u8>, room, number, what| gives(&Case::Write { frame: answer(&bytes), bytes, room }, number, what);
+    write(deep(15), 100, 0, "a value 15 deep");
+    write(deep(16), 100, 4, "a value 16 deep");
+    write(bin(59_995), 60_005, 0, "size 60,000, just enough room");
+    write(bin(59_995), 60_004, 18, "one byte too little");
+    write(bin(59_996), 60_006, 3, "size 60,001");
+    write(bin(59_996), 0, 3, "size before room");
+
+    let limit = |value| Frame { code: 0x40, limit: Number { present: true, value }, ..Frame::default() };
+    gives(&Case::Write { frame: limit(4_294_967_295), bytes: vec![], room: 100 }, 0, "the greatest limit");
+    gives(&Case::Write { frame: limit(4_294_967_296), bytes: vec![], room: 100 }, 9, "one more");
+
+    let unused = Frame { code: 0x40, limit: Number { present: false, value: u64::MAX }, ..Frame::default() };
+    gives(&Case::Write { frame: unused, bytes: vec![], room: 100 }, 0, "what an absent number holds is not looked at");
+}
+
+fn update(tuple: &[u8], list: &[u8], base: u64, number: u32, what: &str) {
+    let change = Change { tuple: tuple.to_vec(), list: list.to_vec(), base, room: 32_768 };
+    gives(&Case::Update(change.clone()), number, what);
+    gives(&Case::Undo(change), number, what);
+}
+
+fn operation(mark: u8, f: u8, argument: &[u8]) -> Vec<u8> {
+    [&[0x93, 0xa1, mark, f], argument].concat()
+}
+
+#[test]
+fn tuples_and_lists() {
+    let (none, one) = (vec![0x90], vec![0x91, 0x01]);
+    update(&array(&vec![vec![0x01]; 64]), &none, 0, 0, "64 fields");
+    update(&array(&vec![vec![0x01]; 65]), &none, 0, 11, "65 fields");
+    update(&[vec![0x91], bin(16_383)].concat(), &none, 0, 0, "a tuple of 16,384 bytes");
+    update(&[vec![0x91], bin(16_384)].concat(), &none, 0, 11, "a tuple of 16,385 bytes");
+    update(&[vec![0xdc, 0x00, 0x01], bin(16_382)].concat(), &none, 0, 11, "the same with a long header");
+    update(&deep(13), &none, 0, 0, "a field 12 deep");
+    update(&deep(14), &none, 0, 11, "a field 13 deep");
+
+    let list = |count, argument: &[u8]| array(&vec![operation(b'=', 0, argument); count]);
+    update(&one, &list(64, &[0x01]), 0, 0, "64 operations");
+    update(&one, &list(65, &[0x01]), 0, 12, "65 operations");
+    update(&one, &list(1, &deep(12)), 0, 0, "an argument 12 deep");
+    update(&one, &list(1, &deep(13)), 0, 12, "an argument 13 deep");
+    let thirds = |last| [10_900, 10_900, last].map(|bytes| operation(b'=', 0, &bin(bytes)));
+    let last = 32_768 - 3 - 2 * (4 + 10_900) - 4;
+    update(&one, &array(&thirds(last)), 0, 0, "a list of 32,768 bytes");
+    update(&one, &array(&thirds(last + 1)), 0, 12, "a list of 32,769 bytes");
+    update(&one, &none, 1, 0, "index base 1");
+    update(&one, &none, 2, 12, "index base 2");
+    update(&none[..0], &none, 2, 11, "a broken tuple comes first");
+}
+
+#[test]
+fn after_an_operation() {
+    let add = |argument: &[u8]| array(&[operation(b'!', 0, argument)]);
+    update(&array(&vec![vec![0x01]; 63]), &add(&[0x01]), 0, 0, "64 fields afterwards");
+    update(&array(&vec![vec![0x01]; 64]), &add(&[0x01]), 0, 16, "65 fields afterwards");
+    update(&[0x90], &add(&bin(16_383)), 0, 0, "16,384 bytes afterwards");
+    update(&[0x90], &add(&bin(16_384)), 0, 16, "16,385 bytes afterwards");
+}
+
+fn undo(tuple: &[u8], operations: &[Vec<u8>], number: u32, what: &str) {
+    let change = Change { tuple: tuple.to_vec(), list: array(operations), base: 0, room: 32_768 };
+    gives(&Case::Update(change.clone()), 0, what);
+    gives(&Case::Undo(change), number, what);
+}
+
+#[test]
+fn undo_lists() {
+    let cut = |more| [vec![operation(b'#', 0, &[0x40])], vec![operation(b'!', 0, &[0x01]); more]].concat();
+    undo(&array(&vec![vec![0x01]; 60]), &cut(4), 0, "an undo list of 64 operations");
+    undo(&array(&vec![vec![0x01]; 60]), &cut(5), 17, "an undo list of 65 operations");
+
+    // Three splices that change nothing and an assignment: 1 byte, thrice 4 and the string's, 4 and the old field's.
+    let text = [vec![0xda, 0x2a, 0x00], vec![0x61; 0x2a00]].concat();
+    let still = unhex("95a13a000000a0");
+    let list = [still.clone(), operation(b'=', 1, &[0xc0]), still.clone(), still];
+    let old = 32_768 - 1 - 3 * (4 + text.len()) - 4;
+    undo(&[vec![0x92], text.clone(), bin(old)].concat(), &list, 0, "an undo list of 32,768 bytes");
+    undo(&[vec![0x92], text, bin(old + 1)].concat(), &list, 17, "an undo list of 32,769 bytes");
+}
+
+#[test]
+fn no_bytes_need_no_address() {
+    let (bytes, out) = (std::ptr::null(), std::ptr::null_mut());
+    // SAFETY: with length 0 a pointer is not used.
+    let numbers = unsafe {
+        [
+            raw::lak_value_read(bytes, 0).number,
+            raw::lak_frame_read(bytes, 0).number,
+            raw::lak_frame_write(Frame::default(), bytes, 0, out, 0).number,
+            raw::lak_update(bytes, 0, bytes, 0, 0, out, 0).number,
+            raw::lak_undo([0x90].as_ptr(), 1, [0x90].as_ptr(), 1, 0, out, 0).number,
+        ]
+    };
+    assert_eq!(numbers, [4, 1, 18, 11, 18]);
+}

@@ -1,0 +1,127 @@
+//! The C interface as it stands in `include/laksubinat.h`: the same structs by value, the same functions.
+//!
+//! The safe functions of the crate are built from these. Use them where an answer is wanted as the library gives it.
+
+/// A number that may be absent; an absent one has value 0 in an answer.
+#[repr(C)]
+#[derive(Clone, Copy, Debug, Default, PartialEq, Eq)]
+pub struct Number {
+    /// Whether the number is there.
+    pub present: bool,
+    /// The number.
+    pub value: u64,
+}
+
+/// The place of a value that may be absent; an absent one is all 0 in an answer.
+#[repr(C)]
+#[derive(Clone, Copy, Debug, Default, PartialEq, Eq)]
+pub struct Place {
+    /// Whether the value is there.
+    pub present: bool,
+    /// Where its first byte is.
+    pub start: u64,
+    /// How many bytes it has.
+    pub length: u64,
+}
+
+/// The record of a frame.
+#[repr(C)]
+#[derive(Clone, Copy, Debug, Default, PartialEq, Eq)]
+#[allow(missing_docs)] // the names are the fields' whole meaning; `crate::Frame` describes them
+pub struct Frame {
+    pub code: u64,
+    pub sync: Number,
+    pub schema_version: Number,
+    pub space: Number,
+    pub index: Number,
+    pub limit: Number,
+    pub offset: Number,
+    pub iterator: Number,
+    pub index_base: Number,
+    pub key: Place,
+    pub tuple: Place,
+    pub function: Place,
+    pub user: Place,
+    pub expression: Place,
+    pub ops: Place,
+    pub data: Place,
+    pub error: Place,
+}
+
+/// The answer of [`lak_frame_read`].
+#[repr(C)]
+#[derive(Clone, Copy, Debug, Default, PartialEq, Eq)]
+pub struct FrameAnswer {
+    /// The refusal's number, 0 where accepted.
+    pub number: u32,
+    /// The frame's length with its size number.
+    pub length: u64,
+    /// The record, empty where refused.
+    pub frame: Frame,
+}
+
+/// The answer of the calls that write.
+#[repr(C)]
+#[derive(Clone, Copy, Debug, Default, PartialEq, Eq)]
+pub struct Answer {
+    /// The refusal's number, 0 where accepted.
+    pub number: u32,
+    /// For 13 to 16 the index of the refused operation, else 0.
+    pub operation: u32,
+    /// How many bytes were written, 0 where refused.
+    pub length: u64,
+}
+
+/// The answer of [`lak_value_read`].
+#[repr(C)]
+#[derive(Clone, Copy, Debug, Default, PartialEq, Eq)]
+pub struct ValueAnswer {
+    /// The refusal's number, 0 where accepted.
+    pub number: u32,
+    /// 0 nil, 1 boolean, 2 integer from 0 up, 3 integer below 0, 4 float 32, 5 float 64, 6 string, 7 bin, 8 ext,
+    /// 9 array, 10 map.
+    pub kind: u32,
+    /// How many bytes the value has.
+    pub length: u64,
+    /// 0 or 1; the number; the number as 64-bit two's complement; the float's bits; else 0.
+    pub bits: u64,
+    /// Where the content of a string, bin or ext starts, or the encoding of an array or map; else 0.
+    pub start: u64,
+    /// How many bytes that is.
+    pub size: u64,
+    /// An ext's type; else 0.
+    pub ext_type: u8,
+}
+
+// The sizes that a C compiler gives them on x86-64.
+const _: () = assert!(size_of::<Frame>() == 328 && size_of::<FrameAnswer>() == 344);
+const _: () = assert!(size_of::<Answer>() == 16 && size_of::<ValueAnswer>() == 48);
+
+extern "C" {
+    /// Reads the value at the start of the bytes.
+    pub fn lak_value_read(bytes: *const u8, n: usize) -> ValueAnswer;
+    /// Reads the frame at the start of the bytes.
+    pub fn lak_frame_read(bytes: *const u8, n: usize) -> FrameAnswer;
+    /// Writes a frame from its record and the bytes that its places refer to.
+    pub fn lak_frame_write(frame: Frame, bytes: *const u8, n: usize, out: *mut u8, room: usize) -> Answer;
+    /// Writes the tuple that an update list makes of a tuple.
+    pub fn lak_update(
+        tuple: *const u8,
+        n: usize,
+        list: *const u8,
+        m: usize,
+        index_base: u64,
+        out: *mut u8,
+        room: usize,
+    ) -> Answer;
+    /// Writes the undo list of an update with these inputs.
+    pub fn lak_undo(
+        tuple: *const u8,
+        n: usize,
+        list: *const u8,
+        m: usize,
+        index_base: u64,
+        out: *mut u8,
+        room: usize,
+    ) -> Answer;
+}
