@@ -49,7 +49,8 @@ struct Piece {
     next: usize,
 }
 
-// The decimal number at `at`, up to the first byte that is no digit of it.
+// The decimal number at `at`, up to the first byte that is no digit of it, or that would make it too
+// large.
 pub(crate) fn decimal_at(text: &[u8], at: usize) -> usize {
     let mut n: usize = 0;
     let mut i = at;
@@ -61,10 +62,11 @@ pub(crate) fn decimal_at(text: &[u8], at: usize) -> usize {
         if b'9' < b {
             return n;
         }
-        if 1_000_000_000_000 < n {
+        let digit = (b - b'0') as usize;
+        if (0xffff_ffff_ffff_ffff - digit) / 10 < n {
             return n;
         }
-        n = n * 10 + (b - b'0') as usize;
+        n = n * 10 + digit;
         i += 1;
     }
     n
