@@ -48,20 +48,17 @@ and-false : (a : Bool) → (a && false) ≡ false
 and-false true = refl
 and-false false = refl
 
-pub limited-is : (back : Bytes) (b n : ℕ) (us : List Bytes) → Piled back b us → length back ≡ maxList → n ≡ length us → listIn back n b ≡ limitedList us
-unfolding listIn limitedList plain
-limited-is back b n us p l e = ⊎-elim (λ h. fitting h) (λ h. past h) (either (length (joined us)) (length back))
-  where
-    fitting : length (joined us) ≤ length back → listIn back n b ≡ limitedList us
-    fitting h = let f = p .fits h in rw (f .1, f .0, e, plain-length us)
+module _ (back : Bytes) (b n : ℕ) (us : List Bytes) (p : Piled back b us) (e : n ≡ length us) where
+  pub limited-is : b ≤ length back → listIn back n b ≡ limitedList us
+  unfolding listIn limitedList plain
+  limited-is l = ⊎-elim (λ h. fitting h) (λ h. absurd (let f = p .past h in omega arith)) (either (length (joined us)) (length back))
+    where
+      fitting : length (joined us) ≤ length back → listIn back n b ≡ limitedList us
+      fitting h = let f = p .fits h in rw (f .1, f .0, e, plain-length us)
 
-    past : length back < length (joined us) → listIn back n b ≡ limitedList us
-    past h =
-        let f = p .past h in
-        let g = plain-length us in
-        rw (
-          lt-leb (length (arrayHeader n) + b) maxList (omega arith),
-          lt-leb (length (plain us)) maxList (omega arith),
-          and-false (leb n maxOperations),
-          and-false (leb (length us) maxOperations),
-        )
+  pub limited-past : length back < b → length back ≡ maxList → limitedList us ≡ refusal LongUndo 0
+  unfolding limitedList
+  limited-past l m = ⊎-elim (λ h. absurd (let f = p .fits h .0 in omega arith)) (λ h. past h) (either (length (joined us)) (length back))
+    where
+      past : length back < length (joined us) → limitedList us ≡ refusal LongUndo 0
+      past h = let g = plain-length us in rw (lt-leb (length (plain us)) maxList (omega arith), and-false (leb (length us) maxOperations))

@@ -1,5 +1,6 @@
 -- An undo list whose bytes lie at the end of a buffer.
 use Prim.Native.Nat.{ℕ, _+_, _-_}
+use mathlib.Core.Path.{_≡_}
 use mathlib.Core.Bool.{_&&_}
 use mathlib.Core.List.{_++_}
 use lib.Dec.{leb}
@@ -7,10 +8,18 @@ use lib.ListN.{length, drop}
 use Rattle.first_bytes.specs.Bytes.{Bytes, pick}
 use Rattle.writing.specs.Forms.{arrayHeader}
 use Rattle.tuples.specs.Limits.{maxOperations, maxList}
-use Rattle.tuples.specs.Call.{Outcome, refusal, bytes}
+use Rattle.tuples.specs.Call.{Outcome, refusal, bytes, undo, undoCall}
 use Rattle.tuples.specs.declared.Refusal.the-variants.{LongUndo}
+use Rattle.answers.specs.Seen.{seen}
+use Rattle.updates.specs.declared.Tried.{Tried}
+use Rattle.updates.specs.declared.Tried.the-variants.{Answered, NoRoom}
 
 -- "17: undo list above 64 operations or 32,768 bytes", of n operations of b bytes together
 unfoldable pub listIn : Bytes → ℕ → ℕ → Outcome
 listIn undo n b =
     pick (leb n maxOperations && leb (length (arrayHeader n) + b) maxList) (bytes (arrayHeader n ++ drop (length undo - b) undo)) (refusal LongUndo 0)
+
+-- the undo call where its operations had room in the buffer `back`; else nothing is written, and where that is as long as a list may be, 17 is due
+abbrev pub Tries : Tried → Bytes → Bytes → Bytes → ℕ → Bytes → Bytes → Type 0
+Tries (Answered a) back tuple list base out left = seen a left ≡ undoCall tuple list base out
+Tries NoRoom back tuple list base out left = (left ≡ out) × (length back ≡ maxList → undo tuple list base ≡ refusal LongUndo 0)
