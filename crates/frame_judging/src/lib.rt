@@ -15,7 +15,7 @@ pub fn all_sound(frame: Frame, bytes: &[u8]) -> bool
 {
     let mut i: usize = 0;
     while i < 17 {
-        let known = frame_items::known_key(frame, bytes, i);
+        let known = frame_keys::known_key(frame, bytes, i);
         let content = known.content;
         if !frame_items::is_sound(bytes, content) {
             return false;
@@ -31,7 +31,7 @@ pub fn all_suit(frame: Frame, bytes: &[u8]) -> bool
 {
     let mut i: usize = 0;
     while i < 17 {
-        let known = frame_items::known_key(frame, bytes, i);
+        let known = frame_keys::known_key(frame, bytes, i);
         let rule = known.rule;
         let content = known.content;
         if !frame_items::content_suits(bytes, rule, content) {
@@ -48,7 +48,7 @@ fn holds(frame: Frame, bytes: &[u8], key: usize) -> bool
 {
     let mut i: usize = 3;
     while i < 17 {
-        let known = frame_items::known_key(frame, bytes, i);
+        let known = frame_keys::known_key(frame, bytes, i);
         let content = known.content;
         if key == known.key as usize {
             return frame_items::is_written(content);
@@ -90,7 +90,7 @@ fn pairs_length(frame: Frame, bytes: &[u8], from: usize, to: usize) -> usize
     let mut total: usize = 0;
     let mut i = from;
     while i < to {
-        let known = frame_items::known_key(frame, bytes, i);
+        let known = frame_keys::known_key(frame, bytes, i);
         let content = known.content;
         total = capped_sum(total, frame_items::pair_length(bytes, content));
         i += 1;

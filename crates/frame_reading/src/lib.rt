@@ -99,8 +99,8 @@ fn by_places<'a>(
     if !needs.known {
         return refused(8);
     }
-    let suited = frame_fields::header_suits(s, header_starts, header_lengths)
-        & frame_fields::body_suits(s, starts, lengths);
+    let suited = frame_suits::header_suits(s, header_starts, header_lengths)
+        & frame_suits::body_suits(s, starts, lengths);
     if !suited {
         return refused(9);
     }

@@ -23,7 +23,7 @@ fn count_pairs(frame: Frame, bytes: &[u8], from: usize, to: usize) -> u32
     let mut count: u32 = 0;
     let mut i = from;
     while i < to {
-        let known = frame_items::known_key(frame, bytes, i);
+        let known = frame_keys::known_key(frame, bytes, i);
         let content = known.content;
         if frame_items::is_written(content) {
             count += 1;
@@ -75,7 +75,7 @@ fn put_pairs(out: &mut [u8], at: usize, frame: Frame, bytes: &[u8], from: usize,
     let mut a = at;
     let mut i = from;
     while i < to {
-        let known = frame_items::known_key(frame, bytes, i);
+        let known = frame_keys::known_key(frame, bytes, i);
         let content = known.content;
         a = put_pair(out, a, known.key, content, bytes);
         i += 1;

@@ -16,14 +16,12 @@ use Rattle.first_bytes.specs.FirstByte.{formOf, sameKind}
 use Rattle.first_bytes.specs.declared.Kind.{Kind}
 use Rattle.first_bytes.specs.declared.Kind.the-variants.{Unsigned, Signed}
 use Rattle.first_bytes.specs.declared.Form.{Form}
-use Rattle.first_bytes.specs.declared.Form.the-variants.{Scalar}
-use Rattle.first_bytes.proofs.Forms.{agree}
 use Rattle.first_bytes.proofs.Range.{both, both-left, both-right, all, all-at}
 use Rattle.values.specs.Number.{number, numberAt}
 use Rattle.values.specs.declared.Number.the-variants.{Is as IsNumber}
 use Rattle.values.proofs.Laws.{number-is}
 use Rattle.scalars.specs.Start.{scalarOf, stringBy, arrayBy, mapBy, startBy, Few}
-use Rattle.scalars.specs.Integer.{dueIn, due, naturalOf, unsignedBy, unsigned, twosComplement, signedOf, signed, adding, integer, shiftNatural, shiftInteger}
+use Rattle.scalars.specs.Integer.{dueIn, due, naturalOf, unsigned, twosComplement, signedOf, signed, adding, integer, shiftNatural, shiftInteger}
 use Rattle.scalars.specs.Header.{counted, header, shiftHeader}
 use Rattle.scalars.specs.declared.Opening.{Opening}
 use Rattle.scalars.specs.declared.Opening.the-variants.{String as Strings, Array as Arrays, Map as Maps}
@@ -122,19 +120,6 @@ module _ (k : Kind) (few : (b w f : ℕ) → b < 256 → Here w f ≡ scalarOf k
       let r = due-few f (drop at s) (rw (getD-drop, add-zero) h) e in
       let l = simp length-drop at (r .1) in
       (r .0, omega arith)
-
--- ---- an unsigned number that is one byte, or none
-
-pub unsigned-end : (s : Bytes) (at : ℕ) → length s ≤ at → CutNat ≡ shiftNatural at (unsigned (drop at s))
-unfolding unsigned unsignedBy
-unsigned-end s at h = rw (← (due-end Unsigned s at h))
-
-pub unsigned-byte : (s : Bytes) (at : ℕ) → at < length s → getD s at 0 < 0x80 → IsNat (getD s at 0) (at + 1) ≡ shiftNatural at (unsigned (drop at s))
-unfolding unsigned unsignedBy naturalOf formOf sameKind
-unsigned-byte s at h k =
-    let f : Scalar Unsigned 0 0 ≡ formOf (getD s at 0) = agree (λ b. Scalar Unsigned 0 0) formOf 0x00 128 tt (getD s at 0) (omega arith) (omega arith) in
-    let d : due Unsigned (drop at s) ≡ dueIn (Here 0 0) (drop (at + 1) s) = due-start Unsigned s at (Here 0 0) h (ap (scalarOf Unsigned) f) in
-    rw (d, ← (due-more s at 0 0 (omega arith)), getD-drop, add-zero)
 
 pub natural-more : (s : Bytes) (at f n : ℕ) → 0 < f → IsNumber n ≡ numberAt f (at + 1) s → n ≡ naturalOf f (drop at s)
 unfolding naturalOf

@@ -136,17 +136,10 @@ fn natural_of(s: &[u8], at: usize, more: usize) -> u64
     n
 }
 
-// The unsigned number at `at`. Most are of one byte, and are told by it.
+// The unsigned number at `at`.
 pub fn unsigned_at(s: &[u8], at: usize) -> Natural
     ensures { λ r. ⌜ r ≡ shiftNatural at (unsigned (drop at (now (s .entry)))) ⌝ }
 {
-    if s.len() <= at {
-        return Natural::Cut;
-    }
-    let b = s[at];
-    if b < 0x80 {
-        return Natural::Is(b as u64, at + 1);
-    }
     match due_at(s, at, Kind::Unsigned) {
         Due::More(more) => Natural::Is(natural_of(s, at, more), at + (1 + more)),
         Due::Cut => Natural::Cut,

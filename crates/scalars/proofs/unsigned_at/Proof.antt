@@ -5,32 +5,17 @@ use mathlib.Core.Path.{_≡_, sym, _∙_}
 use lib.ListN.{length}
 use Rattle.first_bytes.specs.declared.Kind.the-variants.{Unsigned}
 use Rattle.scalars.specs.Integer.{unsigned, unsignedBy}
-use Rattle.scalars.proofs.Laws.{due-there, unsigned-little, unsigned-end, unsigned-byte}
+use Rattle.scalars.proofs.Laws.{due-there, unsigned-little}
 use borrow.Author.Needs.{needs}
 use Rattle.scalars.proofs.unsigned_at.Statement.{statement}
 use Rattle.scalars.proofs.unsigned_at.Tie as tie
 
-returns : tie.Need-returns
-returns c = let a = c .before .before .args in unsigned-end (a .s .now) (a .at) (c .if1 .taken)
-
-shared-slice-read-b : tie.Need-shared-slice-read-b
-shared-slice-read-b c = search needs
-
-cast-t9 : tie.Need-cast-t9
-cast-t9 c = search needs
-
-add-t10 : tie.Need-add-t10
-add-t10 c = search needs
-
-returns-2 : tie.Need-returns-2
-returns-2 c = let a = c .before .before .before .before .args in unsigned-byte (a .s .now) (a .at) (omega arith) (c .if2 .taken)
-
 -- what is due is there
 there : (c : tie.After-known-told) →
-    (let a = c .before .before .before .before .before .before .before .before .args in let f = c .before .more .given .0 .0 in (f ≤ 8) × (a .at + (1 + f) ≤ length (a .s .now)))
+    (let a = c .before .before .before .before .before .args in let f = c .before .more .given .0 .0 in (f ≤ 8) × (a .at + (1 + f) ≤ length (a .s .now)))
 there c =
-    let a = c .before .before .before .before .before .before .before .before .args in
-    let b = c .before .before .before .before .before .shared-slice-known2 .given (a .at) in
+    let a = c .before .before .before .before .before .args in
+    let b = c .before .before .before .before .shared-slice-known .given (a .at) in
     due-there Unsigned unsigned-little (a .s .now) (a .at) _ (omega arith) (sym (c .before .more .given .1) ∙ c .before .before .before .due-at .ensures)
 
 due-at-requires : tie.Need-due-at-requires
@@ -44,13 +29,13 @@ natural-of-requires c κs =
     let k = there c in
     omega arith
 
-add-t15 : tie.Need-add-t15
-add-t15 c =
+add-t8 : tie.Need-add-t8
+add-t8 c =
     let k = there (c .before) in
     omega arith
 
-add-t16 : tie.Need-add-t16
-add-t16 c =
+add-t9 : tie.Need-add-t9
+add-t9 c =
     let k = there (c .before) in
     omega arith
 
@@ -60,34 +45,29 @@ enum-told c = search needs
 enum-told-2 : tie.Need-enum-told-2
 enum-told-2 c = search needs
 
+returns : tie.Need-returns
+unfolding unsigned unsignedBy
+returns c = rw (← (c .before .before .before .before .due-at .ensures), c .before .before .more .given .1, c .natural-of .ensures)
+
+returns-2 : tie.Need-returns-2
+unfolding unsigned unsignedBy
+returns-2 c = rw (← (c .before .before .due-at .ensures), c .enum-told .given .1)
+
 returns-3 : tie.Need-returns-3
 unfolding unsigned unsignedBy
-returns-3 c = rw (← (c .before .before .before .before .due-at .ensures), c .before .before .more .given .1, c .natural-of .ensures)
-
-returns-4 : tie.Need-returns-4
-unfolding unsigned unsignedBy
-returns-4 c = rw (← (c .before .before .due-at .ensures), c .enum-told .given .1)
-
-returns-5 : tie.Need-returns-5
-unfolding unsigned unsignedBy
-returns-5 c = rw (← (c .before .before .due-at .ensures), c .enum-told2 .given .1)
+returns-3 c = rw (← (c .before .before .due-at .ensures), c .enum-told2 .given .1)
 
 pub unsigned-at-spec : {M : Type 1} → statement M
 unsigned-at-spec =
     tie.close
     (tie.spec
-    returns
-    shared-slice-read-b
-    cast-t9
-    add-t10
-    returns-2
     due-at-requires
     enum-known-more
     natural-of-requires
-    add-t15
-    add-t16
+    add-t8
+    add-t9
     enum-told
     enum-told-2
-    returns-3
-    returns-4
-    returns-5)
+    returns
+    returns-2
+    returns-3)

@@ -1,9 +1,9 @@
 -- Absent, or there. Assumes nothing.
 use mathlib.Core.Path.{_∙_}
 use borrow.Author.Needs.{needs}
 use Rattle.frame_fields.proofs.Laws.{suits-there, suits-none}
-use Rattle.frame_fields.proofs.key_suits.Statement.{statement}
-use Rattle.frame_fields.proofs.key_suits.Tie as tie
+use Rattle.frame_suits.proofs.key_suits.Statement.{statement}
+use Rattle.frame_suits.proofs.key_suits.Tie as tie
 
 place-in-requires : tie.Need-place-in-requires
 place-in-requires c κs = search needs

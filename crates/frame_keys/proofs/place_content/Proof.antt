@@ -1,13 +1,13 @@
 -- Absent, outside, or within. Assumes nothing.
 use native.Mathlib.Omega.{arith}
 use borrow.Author.Tests.{not-true, not-false}
 use Rattle.frame_items.specs.Content.{heldOf}
 use Rattle.frame_items.proofs.Laws.{place-absent, place-outside, place-inside}
 use borrow.Author.Needs.{needs}
-use Rattle.frame_items.proofs.place_content.Statement.{statement}
-use Rattle.frame_items.proofs.place_content.Tie as tie
-use Rattle.frame_items.proofs.place_content.Reads as reads
-use Rattle.frame_items.proofs.place_content.Lts as lts
+use Rattle.frame_keys.proofs.place_content.Statement.{statement}
+use Rattle.frame_keys.proofs.place_content.Tie as tie
+use Rattle.frame_keys.proofs.place_content.Reads as reads
+use Rattle.frame_keys.proofs.place_content.Lts as lts
 
 returns : tie.Need-returns
 unfolding heldOf

@@ -5,9 +5,9 @@ use Rattle.frames.specs.Held.{all}
 use Rattle.frames.specs.Keys.{headerItems, headerKeys}
 use Rattle.frames.specs.Reading.{suited}
 use Rattle.frame_tables.specs.Tables.{placeIn}
 use Rattle.frame_fields.proofs.Laws.{suitsAt, all-left}
-use Rattle.frame_fields.proofs.header_suits.Statement.{statement}
-use Rattle.frame_fields.proofs.header_suits.Tie as tie
+use Rattle.frame_suits.proofs.header_suits.Statement.{statement}
+use Rattle.frame_suits.proofs.header_suits.Tie as tie
 
 key-suits-requires : tie.Need-key-suits-requires
 key-suits-requires c κs = search needs
