@@ -3,7 +3,7 @@ use mathlib.Core.Path.{_≡_, refl, sym, subst, ap, _∙_}
 use mathlib.Core.List.{List, [], _∷_}
 use mathlib.Core.Bool.{Bool, true, false, _&&_}
 use Prim.Native.Nat.{ℕ, zero, suc, _+_, _-_, _*_, _^_, _<_, _≤_}
-use native.Mathlib.Nat.{add-assoc, add-zero, zero-add, mul-le-mul-left}
+use native.Mathlib.Nat.{add-assoc, add-zero, mul-le-mul-left}
 use native.Mathlib.Numerals.{add-one}
 use native.Mathlib.Omega.{arith}
 use borrow.Author.Tests.{leb-true, leb-false, le-leb, lt-leb}
@@ -13,7 +13,7 @@ use lib.Seq.{drop-cons, drop-drop}
 use Rattle.first_bytes.specs.Bytes.{Bytes, pick}
 use Rattle.first_bytes.specs.FirstByte.{formOf}
 use Rattle.first_bytes.specs.declared.Kind.{Kind}
-use Rattle.first_bytes.specs.declared.Kind.the-variants.{Unsigned, Signed, String}
+use Rattle.first_bytes.specs.declared.Kind.the-variants.{Unsigned, Signed}
 use Rattle.first_bytes.specs.declared.Form.{Form}
 use Rattle.first_bytes.specs.declared.Form.the-variants.{Unused, Scalar, Array, Map}
 use Rattle.first_bytes.proofs.Range.{both, both-left, both-right, all-at}
@@ -177,23 +177,6 @@ value-small s at d h k = value-byte s at d Unsigned h (agree (λ b. Scalar Unsig
 pub value-high : (s : Bytes) (at d : ℕ) → at < length s → 0xe0 ≤ getD s at 0 → getD s at 0 < 256 → Whole (at + 1) ≡ shift at (value d (drop at s))
 unfolding formOf
 value-high s at d h k l = value-byte s at d Signed h (agree (λ b. Scalar Signed 0 0) formOf 0xe0 32 tt (getD s at 0) (omega arith) (omega arith))
-
--- a scalar without length bytes
-pub value-fixed : (s : Bytes) (at d : ℕ) (k : Kind) (f : ℕ) → at < length s → Scalar k 0 f ≡ formOf (getD s at 0)
-    → shift at (value d (drop at s)) ≡ shift (at + 1) (payload f (drop (at + 1) s))
-unfolding number
-value-fixed s at d k f h e =
-    value-scalar s at d k 0 f h e
-    ∙ sized-is s (at + 1) 0 0 (λ n t. payload (n + f) t) (omega arith) refl
-    ∙ rw (add-zero, zero-add)
-
--- a short string, by its first byte
-pub value-string : (s : Bytes) (at d : ℕ) → at < length s → 0xa0 ≤ getD s at 0 → getD s at 0 < 0xc0
-    → shift at (value d (drop at s)) ≡ shift (at + 1) (payload (getD s at 0 - 0xa0) (drop (at + 1) s))
-unfolding formOf
-value-string s at d h k l =
-    value-fixed s at d String (getD s at 0 - 0xa0) h
-    (agree (λ b. Scalar String 0 (b - 0xa0)) formOf 0xa0 32 tt (getD s at 0) (omega arith) (omega arith))
 
 -- what is no scalar, by its first byte, is none that is whole
 bare : Form → Bool

@@ -73,39 +73,9 @@ fn read_bytes(s: &[u8], at: usize, width: usize, fixed: usize) -> Read
     Read::Whole(from + due)
 }
 
-// The place after `fixed` bytes from `at`; 0 where they are not all there.
-fn fixed_end(s: &[u8], at: usize, fixed: usize) -> usize
-    requires { ⌜ (at ≤ length (now s)) × (fixed ≤ 31) ⌝ }
-    ensures { λ r. ⌜ r ≡ endOr0 (shift at (payload fixed (drop at (now (s .entry))))) ⌝ }
-{
-    if s.len() - at < fixed {
-        return 0;
-    }
-    at + fixed
-}
-
-// The place after the scalar at `at`, by the form of its first byte; 0 where it is not whole, or none
-// stands there.
-fn formed_end(s: &[u8], at: usize) -> usize
-    requires { ⌜ at < length (now s) ⌝ }
-    ensures { λ r. ⌜ r ≡ endOr0 (shift at (value 0 (drop at (now (s .entry))))) ⌝ }
-{
-    match first_bytes::form_of(s[at]) {
-        Form::Unused => 0,
-        Form::Scalar(_, width, fixed) => {
-            if width == 0 {
-                fixed_end(s, at + 1, fixed)
-            } else {
-                end_or_0(read_bytes(s, at + 1, width, fixed))
-            }
-        }
-        Form::Array(_, _) => 0,
-        Form::Map(_, _) => 0,
-    }
-}
-
-// The same at any place. Integers of one byte, short containers and short strings are the most
-// frequent, and are told without the form. It is kept so short that the compiler puts it into loops.
+// The place after the scalar at `at`; 0 where it is not whole, or none stands there. Integers of one
+// byte and short containers are told without the form. It is kept so short that the compiler puts it
+// into its callers' loops.
 fn scalar_end(s: &[u8], at: usize) -> usize
     ensures { λ r. ⌜ r ≡ endOr0 (shift at (value 0 (drop at (now (s .entry))))) ⌝ }
 {
@@ -122,10 +92,12 @@ fn scalar_end(s: &[u8], at: usize) -> usize
     if b < 0xa0 {
         return 0;
     }
-    if b < 0xc0 {
-        return fixed_end(s, at + 1, (b - 0xa0) as usize);
+    match first_bytes::form_of(b) {
+        Form::Unused => 0,
+        Form::Scalar(_, width, fixed) => end_or_0(read_bytes(s, at + 1, width, fixed)),
+        Form::Array(_, _) => 0,
+        Form::Map(_, _) => 0,
     }
-    formed_end(s, at)
 }
 
 // One value at `at`, of depth at most `depth`, whatever it is.
