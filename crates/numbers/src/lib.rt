@@ -25,10 +25,17 @@ pub fn field_of(number: Int, base: u64) -> Field
     }
 }
 
-// The integer at `at`.
+// The integer at `at`. One of a single byte is told here, so that the compiler has no call to make.
 pub fn any_integer(s: &[u8], at: usize) -> Signed
     ensures { λ r. ⌜ SignedAt (now (s .entry)) r (anyInteger (drop at (now (s .entry)))) ⌝ }
 {
+    if s.len() <= at {
+        return Signed::Bad;
+    }
+    let b = s[at];
+    if b < 0x80 {
+        return Signed::Is(Int::FromZero(b as u64), at + 1);
+    }
     match scalars::integer_at(s, at) {
         Integer::Is(z, end) => Signed::Is(z, end),
         Integer::Cut => Signed::Bad,

@@ -6,14 +6,14 @@ use mathlib.Core.Option.{Option, none, some}
 use mathlib.Core.Logic.{⊎-elim}
 use Prim.Native.Nat.{ℕ, zero, suc, _-_, _<_, _≤_}
 use native.Mathlib.Omega.{arith}
-use borrow.Author.Tests.{le-leb, lt-leb}
+use borrow.Author.Tests.{leb-true, le-leb, lt-leb}
 use lib.Dec.{leb}
 use lib.ListN.{length, drop, length-drop, drop-of-length-le}
 use lib.Seq.{drop-cons}
 use Rattle.first_bytes.specs.Bytes.{Bytes, pick}
 use Rattle.scalars.specs.Start.{arrayBy}
 use Rattle.scalars.specs.Header.{header, shiftHeader}
-use Rattle.writing.proofs.Choice.{either, by-leb}
+use Rattle.writing.proofs.Choice.{either}
 use Rattle.scalars.specs.declared.Int.{Int}
 use Rattle.tuples.specs.Limits.{maxOperations, maxList}
 use Rattle.tuples.specs.Decoding.{Got, fails, gets, count}
@@ -21,7 +21,7 @@ use Rattle.tuples.specs.Operation.{Operation, operation, before, andMore, opera
 use Rattle.tuples.specs.Operation as Law
 use Rattle.parts.specs.Part.{naturalIn, naturalEnd, NaturalAt}
 use Rattle.operations.specs.Found.{actionIn, endOf}
-use Rattle.operations.specs.Listing.{restOf, restIn, present, listedBy, listed}
+use Rattle.operations.specs.Listing.{restOf, restIn, present, frontBy, front}
 use Rattle.operations.specs.declared.Action.{Action}
 use Rattle.operations.specs.declared.Action.the-variants.{Plus, Minus, And, Xor, Or, Assign, Insert, Remove, Splice, Bad as NoAction}
 use Rattle.parts.specs.declared.Natural.{Natural}
@@ -80,63 +80,48 @@ operations-end base l at =
     ⊎-elim (λ h. rw (le-leb (length l) at h, drop-of-length-le l h)) (λ h. rw (lt-leb (length l) at h, drop-cons l at 0 h))
     (either (length l) at)
 
--- ---- the list
+-- ---- the front of the list
 
 module _ (base : ℕ) (l : Bytes) where
-  refused : operationsOf base l ≡ none → Bad ≡ listed base l
-  unfolding listed
-  refused e = go (count l) (operationsOf base l) e
-    where
-      go : (g : Got ℕ) (os : Option (List Operation)) → os ≡ none → Bad ≡ listedBy l g os
-      go fails os e = refl
-      go (gets n s) os e = rw e
+  pub base-refused : 1 < base → Bad ≡ front base l
+  unfolding front
+  base-refused h = rw (lt-leb base 1 h)
 
-  pub base-refused : 1 < base → Bad ≡ listed base l
-  unfolding operationsOf
-  base-refused h = refused (rw (lt-leb base 1 h))
-
-  pub long-refused : maxList < length l → Bad ≡ listed base l
-  unfolding operationsOf
-  long-refused h = refused (rw (lt-leb (length l) maxList h, and-false (leb base 1)))
+  pub long-refused : maxList < length l → Bad ≡ front base l
+  unfolding front
+  long-refused h = rw (lt-leb (length l) maxList h, and-false (leb base 1))
     where
       and-false : (b : Bool) → (b && false) ≡ false
       and-false true = refl
       and-false false = refl
 
-  module _ {r : Natural} (g : NaturalAt l r (count l)) where
+  module _ (k : base ≤ 1) (j : length l ≤ maxList) {r : Natural} (g : NaturalAt l r (count l)) where
     told : {x : Natural} → r ≡ x → NaturalAt l x (count l)
     told q = subst (λ (x : Natural). NaturalAt l x (count l)) q g
 
-    pub uncounted-refused : r ≡ NoNatural → Bad ≡ listed base l
-    unfolding listed
-    uncounted-refused q = rw (← (told q .0))
+    fronted : {x : Natural} → r ≡ x → front base l ≡ frontBy l (naturalIn l x)
+    unfolding front
+    fronted q = rw (le-leb base 1 k, le-leb (length l) maxList j, ← (told q .0))
 
-    module _ {n e : ℕ} (q : r ≡ IsNatural n e) (k : base ≤ 1) (j : length l ≤ maxList) where
-      counted : operationsOf base l ≡ pick (leb n maxOperations) (operations base n (drop e l)) none
-      unfolding operationsOf listBy
-      counted = rw (le-leb base 1 k, le-leb (length l) maxList j, ← (told q .0))
+    pub uncounted-refused : r ≡ NoNatural → Bad ≡ front base l
+    uncounted-refused q = sym (fronted q)
 
-      pub many-refused : maxOperations < n → Bad ≡ listed base l
-      many-refused h = refused (counted ∙ rw (lt-leb n maxOperations h))
+    module _ {n e : ℕ} (q : r ≡ IsNatural n e) where
+      pub many-refused : maxOperations < n → Bad ≡ front base l
+      many-refused h = sym (fronted q ∙ rw (lt-leb n maxOperations h))
 
-      pub listed-is : n ≤ maxOperations → {b : Bool} → b ≡ present (operations base n (drop e l)) → pick b (Good n e) Bad ≡ listed base l
-      unfolding listed
-      listed-is h f =
+      pub front-is : n ≤ maxOperations → Good n e ≡ front base l
+      front-is h =
           let w = told q .1 in
           let i : length l - length (drop e l) ≡ e = rw length-drop (omega arith) in
-          rw (f, counted, le-leb n maxOperations h, ← (told q .0)) (go (operations base n (drop e l)) i)
-        where
-          go : (os : Option (List Operation)) → length l - length (drop e l) ≡ e → pick (present os) (Good n e) Bad ≡ listedBy l (gets n (drop e l)) os
-          go none i = refl
-          go (some os) i = rw i
+          sym (fronted q ∙ rw (le-leb n maxOperations h, i))
 
--- ---- what a caller of `judge_list` goes on from
+-- ---- what a caller of `front_of` goes on from
 
 pub record Judged (base : ℕ) (l : Bytes) (n e : ℕ) : Type 0 where
   pub few : n ≤ maxOperations
   pub inside : e ≤ length l
   pub all : operationsOf base l ≡ operations base n (drop e l)
-  pub there : present (operations base n (drop e l)) ≡ true
 
 abbrev Says : ℕ → Bytes → Listed → Type 0
 Says base l (Good n e) = Judged base l n e
@@ -147,38 +132,33 @@ counted-at : (l : Bytes) → NaturalAt l (countOf (shiftHeader 0 (header arrayBy
 counted-at l = count-at l 0 (shiftHeader 0 (header arrayBy l)) refl
 
 module _ (base : ℕ) (l : Bytes) where
-  -- what `os` says where it is the list's operations
-  abbrev Saying : Got ℕ → Option (List Operation) → Type 0
-  Saying g os = operationsOf base l ≡ os → Says base l (listedBy l g os)
+  -- what a front says where `os` are the list's operations
+  abbrev Saying : Listed → Option (List Operation) → Type 0
+  Saying r os = operationsOf base l ≡ os → Says base l r
 
-  says-none : (g : Got ℕ) → Saying g none
-  says-none fails i = i
-  says-none (gets n s) i = i
-
-  says-all : (n e : ℕ) → n ≤ maxOperations → e ≤ length l → (os : Option (List Operation)) → operations base n (drop e l) ≡ os → Saying (gets n (drop e l)) os
-  says-all n e k h none j i = i
-  says-all n e k h (some os) j i =
-      let d : length l - length (drop e l) ≡ e = rw length-drop (omega arith) in
-      rw d (record { few = k; inside = h; all = i ∙ sym j; there = rw j })
-
-  says-list : (x : Natural) → naturalEnd x ≤ length l → Saying (naturalIn l x) (listBy base (naturalIn l x))
+  says-front : (x : Natural) → naturalEnd x ≤ length l → Saying (frontBy l (naturalIn l x)) (listBy base (naturalIn l x))
   unfolding listBy
-  says-list (IsNatural n e) h =
-      by-leb (Saying (gets n (drop e l))) n maxOperations (λ k. says-all n e k h (operations base n (drop e l)) refl) (λ _. says-none (gets n (drop e l)))
-  says-list NoNatural h = says-none fails
+  says-front (IsNatural n e) h =
+      let d : length l - length (drop e l) ≡ e = rw length-drop (omega arith) in
+      go d (leb n maxOperations) refl
+    where
+      go : length l - length (drop e l) ≡ e → (t : Bool) → leb n maxOperations ≡ t → Saying (pick t (Good n (length l - length (drop e l))) Bad) (pick t (operations base n (drop e l)) none)
+      go d true k = λ i. rw d (record { few = leb-true n maxOperations k; inside = h; all = i })
+      go d false k = λ i. i
+  says-front NoNatural h = λ i. i
 
-  says-allowed : (t : Bool) → Saying (count l) (listBy base (count l)) → Saying (count l) (pick t (listBy base (count l)) none)
+  says-allowed : (t : Bool) → Saying (frontBy l (count l)) (listBy base (count l)) → Saying (pick t (frontBy l (count l)) Bad) (pick t (listBy base (count l)) none)
   says-allowed true h = h
-  says-allowed false h = says-none (count l)
+  says-allowed false h = λ i. i
 
-  says : Says base l (listed base l)
-  unfolding listed operationsOf
+  says : Says base l (front base l)
+  unfolding front operationsOf
   says =
       let c = counted-at l in
       says-allowed (leb base 1 && leb (length l) maxList)
-      (subst (λ (g : Got ℕ). Saying g (listBy base g)) (c .0) (says-list (countOf (shiftHeader 0 (header arrayBy l))) (c .1))) refl
+      (subst (λ (g : Got ℕ). Saying (frontBy l g) (listBy base g)) (c .0) (says-front (countOf (shiftHeader 0 (header arrayBy l))) (c .1))) refl
 
-  module _ {r : Listed} (h : r ≡ listed base l) where
+  module _ {r : Listed} (h : r ≡ front base l) where
     pub good : {n e : ℕ} → r ≡ Good n e → Judged base l n e
     good q = subst (Says base l) (sym h ∙ q) says
 

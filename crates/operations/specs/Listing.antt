@@ -1,12 +1,12 @@
--- A list judged as a whole.
+-- A list judged as a whole: its front, and whether its operations fill it.
 use Prim.Native.Nat.{ℕ, _-_}
-use mathlib.Core.Bool.{Bool, true, false}
-use mathlib.Core.List.{List}
+use mathlib.Core.Bool.{Bool, true, false, _&&_}
 use mathlib.Core.Option.{Option, none, some}
+use lib.Dec.{leb}
 use lib.ListN.{length, drop}
-use Rattle.first_bytes.specs.Bytes.{Bytes}
+use Rattle.first_bytes.specs.Bytes.{Bytes, pick}
+use Rattle.tuples.specs.Limits.{maxOperations, maxList}
 use Rattle.tuples.specs.Decoding.{Got, fails, gets, count}
-use Rattle.tuples.specs.Operation.{Operation, operationsOf}
 use Rattle.operations.specs.declared.Ended.{Ended}
 use Rattle.operations.specs.declared.Ended.the-variants.{At, Bad as NotEnded}
 use Rattle.operations.specs.declared.Listed.{Listed}
@@ -25,11 +25,10 @@ abbrev pub present : {A : Type 0} → Option A → Bool
 present none = false
 present (some a) = true
 
--- n operations, the first of them after the array's header, which s follows; refused by 12 where there are none
-abbrev pub listedBy : Bytes → Got ℕ → Option (List Operation) → Listed
-listedBy l fails os = Bad
-listedBy l (gets n s) none = Bad
-listedBy l (gets n s) (some os) = Good n (length l - length s)
+-- what the front of a list tells: n operations, the first of them after the array's header, which s follows; or 12
+abbrev pub frontBy : Bytes → Got ℕ → Listed
+frontBy l fails = Bad
+frontBy l (gets n s) = pick (leb n maxOperations) (Good n (length l - length s)) Bad
 
-unfoldable pub listed : ℕ → Bytes → Listed
-listed base l = listedBy l (count l) (operationsOf base l)
+unfoldable pub front : ℕ → Bytes → Listed
+front base l = pick (leb base 1 && leb (length l) maxList) (frontBy l (count l)) Bad

@@ -1,4 +1,5 @@
-// The operations of a list: how one begins, what it does, and the list judged as a whole.
+// The operations of a list: how one begins, what it does, and the list judged as a whole: its front,
+// and whether the operations fill it.
 use parts::Natural;
 use parts::Signed;
 use parts::Span;
@@ -7,7 +8,7 @@ ghost use mathlib.Core.Path.{_≡_};
 ghost use lib.ListN.{drop};
 ghost use Rattle.tuples.specs.Operation.{three, five, actionOf, operation, operations};
 ghost use Rattle.operations.specs.Found.{ActionAt, endOf, opening, OpenedAt};
-ghost use Rattle.operations.specs.Listing.{restIn, restOf, present, listed};
+ghost use Rattle.operations.specs.Listing.{restIn, restOf, present, front};
 
 // What an operation does, with its argument and the place after it. Bytes are given by their start
 // and their end in the list, which is the operation's end. Of a splice first the position, from 0,
@@ -38,7 +39,7 @@ pub enum Ended {
     Bad,
 }
 
-// The count of a list's operations, and the place of the first; or the list is refused.
+// The count of a list's operations, and the place of the first; or its front is refused.
 pub enum Listed {
     Good(usize, usize),
     Bad,
@@ -162,7 +163,7 @@ fn operation_end(list: &[u8], at: usize, base: u64) -> Ended
 }
 
 // Whether `count` operations from `start` on fill the list.
-fn fill_list(list: &[u8], start: usize, count: usize, base: u64) -> bool
+pub fn fill_list(list: &[u8], start: usize, count: usize, base: u64) -> bool
     ensures { λ r. ⌜ r ≡ present (operations base count (drop start (now (list .entry)))) ⌝ }
 {
     let mut at = start;
@@ -181,9 +182,9 @@ fn fill_list(list: &[u8], start: usize, count: usize, base: u64) -> bool
     list.len() <= at
 }
 
-// The list as a whole, before any of its operations runs.
-pub fn judge_list(list: &[u8], base: u64) -> Listed
-    ensures { λ r. ⌜ r ≡ listed base (now (list .entry)) ⌝ }
+// What the front of a list tells, before any of its operations is read.
+pub fn front_of(list: &[u8], base: u64) -> Listed
+    ensures { λ r. ⌜ r ≡ front base (now (list .entry)) ⌝ }
 {
     if 1 < base {
         return Listed::Bad;
@@ -198,8 +199,5 @@ pub fn judge_list(list: &[u8], base: u64) -> Listed
     if tuples::MAX_OPERATIONS < count {
         return Listed::Bad;
     }
-    if fill_list(list, start, count, base) {
-        return Listed::Good(count, start);
-    }
-    Listed::Bad
+    Listed::Good(count, start)
 }

@@ -55,10 +55,18 @@ pub fn string_at(s: &[u8], at: usize) -> Span
     Span::Is(start, start + n)
 }
 
-// The count of the array whose header stands at `at`, and the place after the header.
+// The count of the array whose header stands at `at`, and the place after the header. A short header
+// is told here, so that the compiler has no call to make for it.
 pub fn count_at(s: &[u8], at: usize) -> Natural
     ensures { λ r. ⌜ NaturalAt (now (s .entry)) r (count (drop at (now (s .entry)))) ⌝ }
 {
+    if s.len() <= at {
+        return Natural::Bad;
+    }
+    let b = s[at];
+    if b / 16 == 9 {
+        return Natural::Is((b - 0x90) as u64, at + 1);
+    }
     match scalars::header_at(s, at, Opening::Array) {
         Header::Is(n, start) => Natural::Is(n as u64, start),
         Header::Other => Natural::Bad,

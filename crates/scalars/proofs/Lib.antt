@@ -1,2 +1,3 @@
 -- Laws of numbers and headers. Assumes nothing.
 pub mod Laws
+pub mod Short
