@@ -56,7 +56,7 @@ module _ (t : Fields) (s : Bytes) (l : List ℕ) where
 
 module _ {s : Bytes} {l : List ℕ} {n : ℕ} (fit : Fit s l n) where
   pub holding : Holds l n
-  holding = record { rows = omega arith; short = fit .short }
+  holding = record { few = fit .few; rows = omega arith; short = fit .short }
 
   pub field-count : length (fieldsIn s l n) ≡ n
   field-count = length-cut (take n l) s ∙ length-take-le n l (omega arith)

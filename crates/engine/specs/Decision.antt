@@ -2,7 +2,7 @@
 use Prim.Native.Nat.{ℕ, _+_, _-_, _≤_}
 use mathlib.Core.Path.{_≡_}
 use mathlib.Core.Bool.{Bool, _&&_}
-use mathlib.Core.List.{List}
+use mathlib.Core.List.{List, [], _∷_}
 use lib.Dec.{leb}
 use lib.ListN.{length, take}
 use Rattle.first_bytes.specs.Bytes.{Bytes, pick}
@@ -34,6 +34,10 @@ decided lengths n f gone more long =
     (Stop TooLarge))
     (Stop NoField))
     (Stop TooLarge)
+
+-- the lengths of what a piece comes as: one field, or none
+abbrev pub rowsOf : ℕ → Bytes → List ℕ
+rowsOf more piece = take more (length piece ∷ [])
 
 -- arrays of a tuple's size, and at most one length, which is the piece's
 pub record Editing (scratch : Bytes) (lengths : List ℕ) (cuts : List ℕ) (piece : Bytes) : Type 0 where

@@ -27,9 +27,9 @@ cutInto (k ∷ ks) s = take k s ∷ cutInto ks (drop k s)
 abbrev pub fieldsIn : Bytes → List ℕ → ℕ → Fields
 fieldsIn scratch lengths n = cutInto (take n lengths) scratch
 
--- whether the table has n lengths, that end within a tuple's limit
+-- whether the table has n lengths, not above the number of a tuple's fields, that end within a tuple's limit
 unfoldable pub holds : List ℕ → ℕ → Bool
-holds lengths n = leb n (length lengths) && leb (sum (take n lengths)) maxTuple
+holds lengths n = leb n maxFields && (leb n (length lengths) && leb (sum (take n lengths)) maxTuple)
 
 unfoldable pub endOf : List ℕ → ℕ → ℕ
 endOf lengths n = pick (holds lengths n) (sum (take n lengths)) (maxTuple + 1)

@@ -7,7 +7,7 @@ ghost use mathlib.Core.Path.{_≡_};
 ghost use mathlib.Core.List.{[], _∷_};
 ghost use Prim.Native.Nat.{_+_, _^_, _<_, _≤_};
 ghost use Rattle.engine.specs.Held.{endOf, cutInto, edit, Left};
-ghost use Rattle.engine.specs.Decision.{unreached, decided, Editing};
+ghost use Rattle.engine.specs.Decision.{unreached, decided, rowsOf, Editing};
 
 // What an edit leaves: so many fields, or a refusal.
 pub enum Edited {
@@ -22,11 +22,15 @@ enum Decided {
 }
 
 // Where the first n fields end, by where the first i of them do; past every scratch array where the
-// table has no n, or they are too long.
-fn end_after(lengths: &[usize], i: usize, start: usize, n: usize) -> usize
+// table has no n, or they are too long. Lengths of 16 bits cannot wrap the sum, so that its loop has
+// no test.
+fn end_after(lengths: &[u16], i: usize, start: usize, n: usize) -> usize
     requires { ⌜ (i ≤ n) × (start ≡ endOf (now lengths) i) ⌝ }
     ensures { λ r. ⌜ r ≡ endOf (now (lengths .entry)) n ⌝ }
 {
+    if MAX_FIELDS < n {
+        return MAX_TUPLE + 1;
+    }
     if lengths.len() < n {
         return MAX_TUPLE + 1;
     }
@@ -36,17 +40,16 @@ fn end_after(lengths: &[usize], i: usize, start: usize, n: usize) -> usize
     let mut end = start;
     let mut j = i;
     while j < n {
-        let k = lengths[j];
-        if MAX_TUPLE - end < k {
-            return MAX_TUPLE + 1;
-        }
-        end += k;
+        end += lengths[j] as usize;
         j += 1;
+    }
+    if MAX_TUPLE < end {
+        return MAX_TUPLE + 1;
     }
     end
 }
 
-pub fn end_of(lengths: &[usize], n: usize) -> usize
+pub fn end_of(lengths: &[u16], n: usize) -> usize
     ensures { λ r. ⌜ r ≡ endOf (now (lengths .entry)) n ⌝ }
 {
     end_after(lengths, 0, 0, n)
@@ -58,7 +61,7 @@ pub struct Extent {
     pub to: usize,
 }
 
-pub fn extent_of(lengths: &[usize], f: usize) -> Extent
+pub fn extent_of(lengths: &[u16], f: usize) -> Extent
     ensures { λ r. ⌜ (r .from ≡ endOf (now (lengths .entry)) f) × (r .to ≡ endOf (now (lengths .entry)) (f + 1)) ⌝ }
 {
     let from = end_of(lengths, f);
@@ -73,7 +76,7 @@ pub fn extent_of(lengths: &[usize], f: usize) -> Extent
 }
 
 // Why no edit reaches past the n fields: there are not so many; or the table does not hold them.
-fn stopped(lengths: &[usize], n: usize) -> Decided
+fn stopped(lengths: &[u16], n: usize) -> Decided
     ensures { λ r. ⌜ r ≡ unreached (now (lengths .entry)) n ⌝ }
 {
     if MAX_TUPLE < end_of(lengths, n) {
@@ -83,7 +86,7 @@ fn stopped(lengths: &[usize], n: usize) -> Decided
 }
 
 // Whether `more` fields of `long` bytes together may come for `gone` of the n from f on.
-fn decide(lengths: &[usize], n: usize, f: usize, gone: usize, more: usize, long: usize) -> Decided
+fn decide(lengths: &[u16], n: usize, f: usize, gone: usize, more: usize, long: usize) -> Decided
     requires { ⌜ (more ≤ 1) × (long < 2 ^ 63) ⌝ }
     ensures { λ r. ⌜ r ≡ decided (now (lengths .entry)) n f gone more long ⌝ }
 {
@@ -110,27 +113,28 @@ fn decide(lengths: &[usize], n: usize, f: usize, gone: usize, more: usize, long:
     Decided::Go(bytes, from, gone_bytes)
 }
 
-// The fields that `cuts` cut the piece into come for `gone` of the n from f on. All is decided before
+// The piece comes as `more` fields, one or none, for `gone` of the n from f on. All is decided before
 // a byte moves.
 fn edit_fields(
     scratch: &mut [u8],
-    lengths: &mut [usize],
+    lengths: &mut [u16],
     n: usize,
     f: usize,
     gone: usize,
-    cuts: &[usize],
+    more: usize,
     piece: &[u8],
 ) -> Edited
-    requires { ⌜ Editing (now scratch) (now lengths) (now cuts) (now piece) ⌝ }
+    requires { ⌜ Editing (now scratch) (now lengths) (rowsOf more (now piece)) (now piece) × (more ≤ 1) ⌝ }
     ensures { λ r. ⌜ Left r (now (scratch .exit)) (now (lengths .exit)) (now (scratch .entry)) (now (lengths .entry))
-        (edit f gone (cutInto (now (cuts .entry)) (now (piece .entry))) (now (scratch .entry)) (now (lengths .entry)) n) ⌝ }
+        (edit f gone (cutInto (rowsOf more (now (piece .entry))) (now (piece .entry))) (now (scratch .entry)) (now (lengths .entry)) n) ⌝ }
 {
-    match decide(lengths, n, f, gone, cuts.len(), piece.len()) {
+    match decide(lengths, n, f, gone, more, piece.len()) {
         Decided::Stop(refusal) => Edited::Stop(refusal),
         Decided::Go(bytes, from, gone_bytes) => {
             moves::splice_bytes(scratch, bytes, from, gone_bytes, piece);
-            moves::splice_lengths(lengths, n, f, gone, cuts);
-            Edited::Next(n - gone + cuts.len())
+            let one = [piece.len() as u16];
+            moves::splice_lengths(lengths, n, f, gone, &one[..more]);
+            Edited::Next(n - gone + more)
         }
     }
 }
@@ -138,7 +142,7 @@ fn edit_fields(
 // The piece comes for `gone` of the n fields from f on.
 pub fn put_in(
     scratch: &mut [u8; MAX_TUPLE],
-    lengths: &mut [usize; MAX_FIELDS],
+    lengths: &mut [u16; MAX_FIELDS],
     n: usize,
     f: usize,
     gone: usize,
@@ -147,14 +151,13 @@ pub fn put_in(
     ensures { λ r. ⌜ Left r (now (scratch .exit)) (now (lengths .exit)) (now (scratch .entry)) (now (lengths .entry))
         (edit f gone (now (piece .entry) ∷ []) (now (scratch .entry)) (now (lengths .entry)) n) ⌝ }
 {
-    let one = [piece.len()];
-    edit_fields(scratch, lengths, n, f, gone, &one, piece)
+    edit_fields(scratch, lengths, n, f, gone, 1, piece)
 }
 
 // `gone` of the n fields, from f on, go.
 pub fn cut_out(
     scratch: &mut [u8; MAX_TUPLE],
-    lengths: &mut [usize; MAX_FIELDS],
+    lengths: &mut [u16; MAX_FIELDS],
     n: usize,
     f: usize,
     gone: usize,
@@ -162,6 +165,5 @@ pub fn cut_out(
     ensures { λ r. ⌜ Left r (now (scratch .exit)) (now (lengths .exit)) (now (scratch .entry)) (now (lengths .entry))
         (edit f gone [] (now (scratch .entry)) (now (lengths .entry)) n) ⌝ }
 {
-    let none = [0usize; 1];
-    edit_fields(scratch, lengths, n, f, gone, &none[..0], b"")
+    edit_fields(scratch, lengths, n, f, gone, 0, b"")
 }

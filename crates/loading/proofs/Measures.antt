@@ -5,7 +5,7 @@ use Prim.Native.Nat.{ℕ, suc, _+_, _-_, _<_, _≤_}
 use native.Mathlib.Omega.{arith}
 use native.Mathlib.Numerals.{add-one}
 use native.Mathlib.Nat.{add-zero, sub-zero}
-use lib.ListN.{length, take, drop, set, take-append-drop}
+use lib.ListN.{length, take, drop, set, length-drop, take-append-drop}
 use lib.Seq.{take-suc-set, drop-set-lt, drop-drop, length-take-le}
 use Rattle.first_bytes.specs.Bytes.{Bytes}
 use Rattle.values.specs.Value.{shift, items}
@@ -47,6 +47,13 @@ module _ {v : Bytes → Read} (good : Good v) {t : Bytes} {from n : ℕ} {l₀ l
 
   pub place-after : {e : ℕ} → Whole e ≡ shift at (v (drop at t)) → at ≤ e
   place-after q = let w = whole-at at _ (v (drop at t)) q in omega arith
+
+  pub length-there : {e : ℕ} → Whole e ≡ shift at (v (drop at t)) → e - at ≤ length t
+  length-there {e} q =
+      let w = whole-at at e (v (drop at t)) q in
+      let k = good (drop at t) (e - at) (w .1) .0 in
+      let d = length-drop at t in
+      omega arith
 
   pub next-whole : {e : ℕ} → i < length l → Whole e ≡ shift at (v (drop at t)) → Sofar v t from n l₀ (set l i (e - at)) e (i + 1)
   unfolding pieces lengthsOf

@@ -10,7 +10,7 @@ ghost use Prim.Native.Nat.{_≤_};
 ghost use lib.ListN.{length, drop};
 ghost use Rattle.values.specs.Value.{shift, value, items};
 ghost use Rattle.values.specs.Pieces.{pieces};
-ghost use Rattle.tuples.specs.Limits.{fieldDepth};
+ghost use Rattle.tuples.specs.Limits.{fieldDepth, maxTuple};
 ghost use Rattle.tuples.specs.Tuple.{values, fieldsOf};
 ghost use Rattle.engine.specs.Held.{lengthsOf, over};
 ghost use Rattle.loading.specs.Loading.{measured, Laid, Arrays};
@@ -23,8 +23,8 @@ pub enum Loaded {
 
 // The n values from `from` on: the place after them, and into the table the lengths of those that
 // are whole.
-fn measure(tuple: &[u8], from: usize, n: usize, lengths: &mut [usize]) -> Read
-    requires { ⌜ n ≤ length (now lengths) ⌝ }
+fn measure(tuple: &[u8], from: usize, n: usize, lengths: &mut [u16]) -> Read
+    requires { ⌜ (n ≤ length (now lengths)) × (length (now tuple) ≤ maxTuple) ⌝ }
     ensures { λ r. ⌜ (r ≡ shift from (items (value fieldDepth) n (drop from (now (tuple .entry)))))
         × (now (lengths .exit) ≡ over (lengthsOf (pieces (value fieldDepth) n (drop from (now (tuple .entry))))) (now (lengths .entry))) ⌝ }
 {
@@ -36,7 +36,7 @@ fn measure(tuple: &[u8], from: usize, n: usize, lengths: &mut [usize]) -> Read
                 return Read::Broken(place);
             }
             Read::Whole(end) => {
-                lengths[i] = end - at;
+                lengths[i] = (end - at) as u16;
                 at = end;
             }
         }
@@ -46,7 +46,7 @@ fn measure(tuple: &[u8], from: usize, n: usize, lengths: &mut [usize]) -> Read
 }
 
 // The n values from `at` on as the fields, where they fill the tuple's bytes.
-fn lay(tuple: &[u8], at: usize, n: usize, scratch: &mut [u8], lengths: &mut [usize]) -> Loaded
+fn lay(tuple: &[u8], at: usize, n: usize, scratch: &mut [u8], lengths: &mut [u16]) -> Loaded
     requires { ⌜ Arrays (now tuple) at n (now scratch) (now lengths) ⌝ }
     ensures { λ r. ⌜ Laid r (now (scratch .exit)) (now (lengths .exit)) (now (scratch .entry)) (now (lengths .entry))
         (values n (drop at (now (tuple .entry)))) (pieces (value fieldDepth) n (drop at (now (tuple .entry)))) ⌝ }
@@ -64,7 +64,7 @@ fn lay(tuple: &[u8], at: usize, n: usize, scratch: &mut [u8], lengths: &mut [usi
 pub fn load(
     tuple: &[u8],
     scratch: &mut [u8; MAX_TUPLE],
-    lengths: &mut [usize; MAX_FIELDS],
+    lengths: &mut [u16; MAX_FIELDS],
 ) -> Loaded
     ensures { λ r. ⌜ Laid r (now (scratch .exit)) (now (lengths .exit)) (now (scratch .entry)) (now (lengths .entry))
         (fieldsOf (now (tuple .entry))) (measured (now (tuple .entry))) ⌝ }

@@ -78,7 +78,7 @@ pub fn splice_bytes(s: &mut [u8], total: usize, at: usize, gone: usize, piece: &
     true
 }
 
-fn lengths_down(s: &mut [usize], from: usize, to: usize, n: usize)
+fn lengths_down(s: &mut [u16], from: usize, to: usize, n: usize)
     requires { ⌜ (to ≤ from) × (from + n ≤ length (now s)) ⌝ }
     ensures { λ _. ⌜ now (s .exit) ≡ paste (now (s .entry)) to (drop from (now (s .entry))) n ⌝ }
 {
@@ -89,7 +89,7 @@ fn lengths_down(s: &mut [usize], from: usize, to: usize, n: usize)
     }
 }
 
-fn lengths_up(s: &mut [usize], from: usize, to: usize, n: usize)
+fn lengths_up(s: &mut [u16], from: usize, to: usize, n: usize)
     requires { ⌜ (from ≤ to) × (to + n ≤ length (now s)) ⌝ }
     ensures { λ _. ⌜ now (s .exit) ≡ paste (now (s .entry)) to (drop from (now (s .entry))) n ⌝ }
 {
@@ -100,7 +100,7 @@ fn lengths_up(s: &mut [usize], from: usize, to: usize, n: usize)
     }
 }
 
-fn move_lengths(s: &mut [usize], from: usize, to: usize, n: usize)
+fn move_lengths(s: &mut [u16], from: usize, to: usize, n: usize)
     requires { ⌜ (from + n ≤ length (now s)) × (to + n ≤ length (now s)) ⌝ }
     ensures { λ _. ⌜ now (s .exit) ≡ paste (now (s .entry)) to (drop from (now (s .entry))) n ⌝ }
 {
@@ -114,7 +114,7 @@ fn move_lengths(s: &mut [usize], from: usize, to: usize, n: usize)
     lengths_down(s, from, to, n);
 }
 
-fn copy_lengths(s: &mut [usize], at: usize, piece: &[usize])
+fn copy_lengths(s: &mut [u16], at: usize, piece: &[u16])
     requires { ⌜ at + length (now piece) ≤ length (now s) ⌝ }
     ensures { λ _. ⌜ now (s .exit) ≡ put at (now (piece .entry)) (now (s .entry)) ⌝ }
 {
@@ -127,11 +127,11 @@ fn copy_lengths(s: &mut [usize], at: usize, piece: &[usize])
 
 // The same of lengths.
 pub fn splice_lengths(
-    s: &mut [usize],
+    s: &mut [u16],
     total: usize,
     at: usize,
     gone: usize,
-    piece: &[usize],
+    piece: &[u16],
 ) -> bool
     ensures { λ r. ⌜ (r ≡ fits (length (now (s .entry))) total at gone (length (now (piece .entry))))
         × (now (s .exit) ≡ replaced total at gone (now (piece .entry)) (now (s .entry))) ⌝ }

@@ -77,7 +77,7 @@ pub fn plan(
     action: Action,
     list: &[u8],
     scratch: &[u8],
-    lengths: &[usize],
+    lengths: &[u16],
     n: usize,
     work: &mut [u8],
 ) -> Planned
@@ -109,7 +109,7 @@ pub fn perform(
     list: &[u8],
     work: &[u8],
     scratch: &mut [u8; MAX_TUPLE],
-    lengths: &mut [usize; MAX_FIELDS],
+    lengths: &mut [u16; MAX_FIELDS],
     n: usize,
 ) -> Edited
     ensures { λ r. ⌜ Left r (now (scratch .exit)) (now (lengths .exit)) (now (scratch .entry)) (now (lengths .entry))

@@ -40,7 +40,7 @@ fn lay_field(
     mark: u8,
     f: usize,
     scratch: &[u8],
-    lengths: &[usize],
+    lengths: &[u16],
     at: usize,
 ) -> usize
     requires { ⌜ at < maxFields ⌝ }
@@ -61,7 +61,7 @@ fn lay_field(
 }
 
 // `= f old`.
-fn lay_old(undo: &mut [u8], bytes: usize, f: usize, scratch: &[u8], lengths: &[usize]) -> usize
+fn lay_old(undo: &mut [u8], bytes: usize, f: usize, scratch: &[u8], lengths: &[u16]) -> usize
     ensures { λ r. ⌜ (r ≡ countedAll (length (now (undo .entry))) (oldBack f (now (scratch .entry)) (now (lengths .entry))) bytes)
         × (now (undo .exit) ≡ laidAll (oldBack f (now (scratch .entry)) (now (lengths .entry))) bytes (now (undo .entry))) ⌝ }
 {
@@ -78,7 +78,7 @@ fn lay_removed(
     f: usize,
     m: usize,
     scratch: &[u8],
-    lengths: &[usize],
+    lengths: &[u16],
 ) -> usize
     requires { ⌜ f + m ≤ maxFields ⌝ }
     ensures { λ r. ⌜ (r ≡ countedAll (length (now (undo .entry))) (restored f (fieldsFrom (now (scratch .entry)) (now (lengths .entry)) f m)) bytes)
@@ -99,7 +99,7 @@ pub fn lay_inverse(
     bytes: usize,
     plan: Planned,
     scratch: &[u8],
-    lengths: &[usize],
+    lengths: &[u16],
 ) -> usize
     ensures { λ r. ⌜ (r ≡ countedAll (length (now (undo .entry))) (inverseIn plan (now (scratch .entry)) (now (lengths .entry))) bytes)
         × (now (undo .exit) ≡ laidAll (inverseIn plan (now (scratch .entry)) (now (lengths .entry))) bytes (now (undo .entry))) ⌝ }

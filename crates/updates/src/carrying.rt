@@ -15,7 +15,7 @@ pub(crate) fn carry_out(
     list: &[u8],
     base: u64,
     scratch: &mut [u8; MAX_TUPLE],
-    lengths: &mut [usize; MAX_FIELDS],
+    lengths: &mut [u16; MAX_FIELDS],
     undo: &mut [u8],
 ) -> Ran
     requires { ⌜ (length (now scratch) ≡ maxTuple) × (length (now lengths) ≡ maxFields) ⌝ }

@@ -34,7 +34,7 @@ pub fn update(tuple: &[u8], list: &[u8], index_base: u64, out: &mut [u8]) -> Ans
     ensures { λ r. ⌜ seen r (now (out .exit)) ≡ updateCall (now (tuple .entry)) (now (list .entry)) «index_base» (now (out .entry)) ⌝ }
 {
     let mut scratch = [0u8; MAX_TUPLE];
-    let mut lengths = [0usize; MAX_FIELDS];
+    let mut lengths = [0u16; MAX_FIELDS];
     let mut none = [0u8; 1];
     match carry_out(
         tuple,
@@ -73,7 +73,7 @@ fn undo_in(tuple: &[u8], list: &[u8], index_base: u64, back: &mut [u8], out: &mu
     ensures { λ r. ⌜ Tries r (now (back .entry)) (now (tuple .entry)) (now (list .entry)) «index_base» (now (out .entry)) (now (out .exit)) ⌝ }
 {
     let mut scratch = [0u8; MAX_TUPLE];
-    let mut lengths = [0usize; MAX_FIELDS];
+    let mut lengths = [0u16; MAX_FIELDS];
     match carry_out(tuple, list, index_base, &mut scratch, &mut lengths, back) {
         Ran::Refused(refusal, i) => Tried::Answered(answers::refused(refusal, i as u32)),
         Ran::Done(stage) => {

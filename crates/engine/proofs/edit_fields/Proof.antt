@@ -1,19 +1,28 @@
 -- What was decided says what both splices do. Assumes nothing.
-use mathlib.Core.Path.{_∙_}
+use mathlib.Core.Path.{_≡_, sym, _∙_}
+use mathlib.Core.List.{[], _∷_}
+use Prim.Native.Nat.{ℕ, _≤_}
 use native.Mathlib.Omega.{arith}
+use lib.ListN.{length}
+use lib.Seq.{length-take-le}
+use Rattle.first_bytes.specs.Bytes.{Bytes}
+use Rattle.engine.specs.Decision.{rowsOf}
 use Rattle.engine.proofs.Edits.{stopped, edit-done}
 use Rattle.engine.proofs.Decisions.{Means, Going, meaning}
 use borrow.Author.Needs.{needs}
 use Rattle.engine.proofs.edit_fields.Statement.{statement}
 use Rattle.engine.proofs.edit_fields.Tie as tie
 
-decision : (d : tie.After-decide) → (let a = d .before .before .before .before .before .before .args in Means (a .scratch .now) (a .lengths .now) (a .n) (a .f) (a .gone) (a .cuts .now) (a .piece .now) (d .decide .result))
-decision d =
-    let o = d .before .before .before .before .before .before in
-    let a = o .args in
-    rw (d .decide .ensures) (meaning (a .scratch .now) (a .lengths .now) (a .n) (a .f) (a .gone) (a .cuts .now) (a .piece .now) (o .pre))
+rows : (more : ℕ) (p : Bytes) → more ≤ 1 → length (rowsOf more p) ≡ more
+rows more p h = length-take-le more (length p ∷ []) h
 
-going : (k : tie.After-known-told2) → (let a = k .before .before .before .before .before .before .before .before .before .args in Going (a .scratch .now) (a .lengths .now) (a .n) (a .f) (a .gone) (a .cuts .now) (a .piece .now) (k .before .bytes .given .0 .0) (k .before .bytes .given .0 .1 .0) (k .before .bytes .given .0 .1 .1 .0))
+decision : (d : tie.After-decide) → (let a = d .before .before .before .before .before .args in Means (a .scratch .now) (a .lengths .now) (a .n) (a .f) (a .gone) (rowsOf (a .more) (a .piece .now)) (a .piece .now) (d .decide .result))
+decision d =
+    let o = d .before .before .before .before .before in
+    let a = o .args in
+    rw (d .decide .ensures) (rw (rows (a .more) (a .piece .now) (o .pre .1)) at (meaning (a .scratch .now) (a .lengths .now) (a .n) (a .f) (a .gone) (rowsOf (a .more) (a .piece .now)) (a .piece .now) (o .pre .0)))
+
+going : (k : tie.After-known-told2) → (let a = k .before .before .before .before .before .before .before .before .args in Going (a .scratch .now) (a .lengths .now) (a .n) (a .f) (a .gone) (rowsOf (a .more) (a .piece .now)) (a .piece .now) (k .before .bytes .given .0 .0) (k .before .bytes .given .0 .1 .0) (k .before .bytes .given .0 .1 .1 .0))
 going k = rw (k .before .bytes .given .1) at (decision (k .before .before .before))
 
 decide-requires : tie.Need-decide-requires
@@ -28,14 +37,29 @@ enum-known-bytes c = search needs
 splice-bytes-requires : tie.Need-splice-bytes-requires
 splice-bytes-requires c κs = search needs
 
+cast-t22 : tie.Need-cast-t22
+cast-t22 c = let g = going (c .before .before .before .before) in omega (arith, g .short)
+
+array-share-prefix-one : tie.Need-array-share-prefix-one
+array-share-prefix-one c = search needs
+
+slice-aggregate-splice-lengths : tie.Need-slice-aggregate-splice-lengths
+slice-aggregate-splice-lengths c =
+    let o = c .before .before .before .before .before .before .before .before .before .before .before .before .before .before in
+    sym (rows (o .args .more) (o .args .piece .now) (o .pre .1))
+
 splice-lengths-requires : tie.Need-splice-lengths-requires
 splice-lengths-requires c κs = search needs
 
-sub-t23 : tie.Need-sub-t23
-sub-t23 c = let g = going (c .before .before .before .before .before .before .before .before) in omega (arith, g .replacing .part)
+sub-t21 : tie.Need-sub-t21
+sub-t21 c = let g = going (c .before .before .before .before .before .before .before .before .before) in omega (arith, g .replacing .part)
 
-add-t25 : tie.Need-add-t25
-add-t25 c = let g = going (c .before .before .before .before .before .before .before .before) in omega (arith, g .few)
+add-t27 : tie.Need-add-t27
+add-t27 c =
+    let k = c .before .before .before .before .before .before .before .before .before in
+    let o = k .before .before .before .before .before .before .before .before in
+    let e = rows (o .args .more) (o .args .piece .now) (o .pre .1) in
+    omega (arith, going k .few)
 
 same-length : tie.Need-same-length
 same-length c = search needs
@@ -52,11 +76,12 @@ same-length-3 c = search needs
 returns-2 : tie.Need-returns-2
 returns-2 c =
     let l = c .before .before in
-    let s = l .before .before .before .before in
+    let s = l .before .before .before .before .before in
     let k = s .before .before in
     let g = going k in
-    let o = k .before .before .before .before .before .before .before .before .before in
-    edit-done (g .replacing) (g .few) (g .short) (o .pre .rows) (l .splice-lengths .ensures .1) (s .splice-bytes .ensures .1 ∙ rw (g .all, g .start, g .bytes))
+    let o = k .before .before .before .before .before .before .before .before in
+    rw (rows (o .args .more) (o .args .piece .now) (o .pre .1)) at
+    (edit-done (g .replacing) (g .few) (g .short) (o .pre .0 .rows) (l .splice-lengths .ensures .1) (s .splice-bytes .ensures .1 ∙ rw (g .all, g .start, g .bytes)))
 
 pub edit-fields-spec : {M : Type 1} → statement M
 edit-fields-spec =
@@ -66,9 +91,12 @@ edit-fields-spec =
     enum-known-refusal
     enum-known-bytes
     splice-bytes-requires
+    cast-t22
+    array-share-prefix-one
+    slice-aggregate-splice-lengths
     splice-lengths-requires
-    sub-t23
-    add-t25
+    sub-t21
+    add-t27
     same-length
     returns
     same-length-2

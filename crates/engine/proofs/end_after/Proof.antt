@@ -1,17 +1,17 @@
--- The sum of the lengths before `j`, within the limit. Assumes nothing.
-use mathlib.Core.Path.{_≡_, refl, sym, _∙_}
-use Prim.Native.Nat.{_+_, _-_, _≤_}
+-- The sum of the lengths before `j`, each below 2^16, so that it does not wrap. Assumes nothing.
+use mathlib.Core.Path.{_≡_, _∙_}
+use Prim.Native.Nat.{_+_, _-_, _*_, _≤_}
 use native.Mathlib.Omega.{arith}
 use lib.ListN.{take}
 use Rattle.tuples.specs.Limits.{maxTuple}
 use Rattle.engine.specs.Held.{sum}
-use Rattle.engine.proofs.Cut.{sum-next, sum-more}
-use Rattle.engine.proofs.Ends.{end-here, end-past, end-long, end-further, end-start}
+use Rattle.engine.proofs.Cut.{sum-next}
+use Rattle.engine.proofs.Ends.{end-here, end-not, end-further, end-start}
 use Rattle.engine.proofs.end_after.Statement.{statement}
 use Rattle.engine.proofs.end_after.Tie as tie
 
 abbrev Inv-loop : tie.InvT-loop
-Inv-loop lengths i start n end₀ j₀ end j = (j ≤ n) × (end ≡ sum (take j lengths)) × (end ≤ maxTuple)
+Inv-loop lengths i start n end₀ j₀ end j = (j ≤ n) × (end ≡ sum (take j lengths)) × (end ≤ maxTuple + j * 0xffff)
 
 abbrev μ-loop : tie.MeasureT-loop
 μ-loop lengths i start n end₀ j₀ end j = n - j
@@ -20,46 +20,40 @@ add-result : tie.Need-add-result Inv-loop μ-loop
 add-result c = omega arith
 
 returns : tie.Need-returns Inv-loop μ-loop
-returns c = end-past _ _ (c .if1 .taken)
+returns c = end-not _ _ (λ h. omega (arith, h .few, c .if1 .taken))
 
 add-result-2 : tie.Need-add-result-2 Inv-loop μ-loop
 add-result-2 c = omega arith
 
 returns-2 : tie.Need-returns-2 Inv-loop μ-loop
-returns-2 c =
-    let o = c .before .before in
-    let a = o .args in
-    end-further (a .lengths .now) (a .i) (a .n) (o .pre .0) (o .pre .1) (c .if2 .taken)
-
-loop-holds : tie.Need-loop-holds Inv-loop μ-loop
-loop-holds c =
-    let o = c .before .before in
-    let a = o .args in
-    (o .pre .0, end-start (a .lengths .now) (a .i) (o .pre .1) (c .if2 .left), c .if2 .left)
-
-mul-k : tie.Need-mul-k Inv-loop μ-loop
-mul-k c = omega arith
-
-shared-slice-read-k : tie.Need-shared-slice-read-k Inv-loop μ-loop
-shared-slice-read-k c = omega arith
-
-sub-if3 : tie.Need-sub-if3 Inv-loop μ-loop
-sub-if3 c = omega arith
+returns-2 c = end-not _ _ (λ h. omega (arith, h .rows, c .if2 .taken))
 
 add-result-3 : tie.Need-add-result-3 Inv-loop μ-loop
 add-result-3 c = omega arith
 
 returns-3 : tie.Need-returns-3 Inv-loop μ-loop
 returns-3 c =
-    let l = c .before .before .before in
-    let a = l .before .before .before .args in
-    let j = l .loop .j in
-    let e = sum-next (a .lengths .now) j (omega arith) in
-    let m = sum-more (j + 1) (a .n) (a .lengths .now) (omega arith) in
-    end-long (a .lengths .now) (a .n) (omega arith) (omega arith)
+    let o = c .before .before .before in
+    let a = o .args in
+    end-further (a .lengths .now) (a .i) (a .n) (o .pre .0) (o .pre .1) (c .if3 .taken)
+
+loop-holds : tie.Need-loop-holds Inv-loop μ-loop
+loop-holds c =
+    let o = c .before .before .before in
+    let a = o .args in
+    (o .pre .0, end-start (a .lengths .now) (a .i) (o .pre .1) (c .if3 .left), omega (arith, c .if3 .left))
+
+mul-end : tie.Need-mul-end Inv-loop μ-loop
+mul-end c = omega arith
+
+shared-slice-read-end : tie.Need-shared-slice-read-end Inv-loop μ-loop
+shared-slice-read-end c = omega arith
+
+cast-end : tie.Need-cast-end Inv-loop μ-loop
+cast-end c = let b = c .shared-slice-known .given (c .before .before .loop .j) in omega arith
 
 add-end : tie.Need-add-end Inv-loop μ-loop
-add-end c = omega arith
+add-end c = let b = c .shared-slice-known .given (c .before .before .loop .j) in omega arith
 
 add-j : tie.Need-add-j Inv-loop μ-loop
 add-j c = omega arith
@@ -69,17 +63,29 @@ loop-less c = omega arith
 
 loop-again : tie.Need-loop-again Inv-loop μ-loop
 loop-again c =
-    let l = c .before .before .before in
-    let e = sum-next (l .before .before .before .args .lengths .now) (l .loop .j) (omega arith) in
+    let l = c .before .before in
+    let e = sum-next (l .before .before .before .before .args .lengths .now) (l .loop .j) (omega arith) in
+    let b = c .shared-slice-known .given (l .loop .j) in
     (omega arith, omega arith, omega arith)
+
+add-result-4 : tie.Need-add-result-4 Inv-loop μ-loop
+add-result-4 c = omega arith
 
 returns-4 : tie.Need-returns-4 Inv-loop μ-loop
 returns-4 c =
-    let l = c .before in
-    let a = l .before .before .before .args in
+    let l = c .before .before in
+    let a = l .before .before .before .before .args in
     let e : l .loop .j ≡ a .n = omega arith in
     let s : l .loop .end ≡ sum (take (a .n) (a .lengths .now)) = l .loop .inv .1 ∙ rw e in
-    s ∙ end-here (a .lengths .now) (a .n) (record { rows = omega arith; short = omega arith })
+    end-not _ _ (λ h. omega (arith, h .short, s, c .if4 .taken))
+
+returns-5 : tie.Need-returns-5 Inv-loop μ-loop
+returns-5 c =
+    let l = c .before .before in
+    let a = l .before .before .before .before .args in
+    let e : l .loop .j ≡ a .n = omega arith in
+    let s : l .loop .end ≡ sum (take (a .n) (a .lengths .now)) = l .loop .inv .1 ∙ rw e in
+    s ∙ end-here (a .lengths .now) (a .n) (record { few = omega arith; rows = omega arith; short = omega arith })
 
 pub end-after-spec : {M : Type 1} → statement M
 end-after-spec =
@@ -91,14 +97,16 @@ end-after-spec =
     returns
     add-result-2
     returns-2
-    loop-holds
-    mul-k
-    shared-slice-read-k
-    sub-if3
     add-result-3
     returns-3
+    loop-holds
+    mul-end
+    shared-slice-read-end
+    cast-end
     add-end
     add-j
     loop-less
     loop-again
-    returns-4)
+    add-result-4
+    returns-4
+    returns-5)

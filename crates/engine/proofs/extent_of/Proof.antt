@@ -1,6 +1,6 @@
 -- The second end from the first, or past the table. Assumes nothing.
 use native.Mathlib.Omega.{arith}
-use Rattle.engine.proofs.Ends.{end-past}
+use Rattle.engine.proofs.Ends.{end-not}
 use borrow.Author.Needs.{needs}
 use Rattle.engine.proofs.extent_of.Statement.{statement}
 use Rattle.engine.proofs.extent_of.Tie as tie
@@ -12,7 +12,7 @@ add-t7 : tie.Need-add-t7
 add-t7 c = search needs
 
 returns : tie.Need-returns
-returns c = (c .before .end-of .ensures, end-past _ _ (omega arith))
+returns c = (c .before .end-of .ensures, end-not _ _ (λ h. omega (arith, h .rows)))
 
 add-end-after : tie.Need-add-end-after
 add-end-after c = search needs

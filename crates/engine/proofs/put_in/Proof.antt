@@ -5,14 +5,11 @@ use borrow.Author.Needs.{needs}
 use Rattle.engine.proofs.put_in.Statement.{statement}
 use Rattle.engine.proofs.put_in.Tie as tie
 
-slice-aggregate-edit-fields : tie.Need-slice-aggregate-edit-fields
-slice-aggregate-edit-fields c = search needs
-
 edit-fields-requires : tie.Need-edit-fields-requires
-edit-fields-requires c κs = record { room = search needs; rows = search needs; few = omega arith; whole = sum-one _ }
+edit-fields-requires c κs = (record { room = search needs; rows = search needs; few = omega arith; whole = sum-one _ }, omega arith)
 
 returns : tie.Need-returns
-returns c = rw (cut-one (c .before .before .before .before .before .args .piece .now)) at (c .edit-fields .ensures)
+returns c = rw (cut-one (c .before .before .before .before .args .piece .now)) at (c .edit-fields .ensures)
 
 pub put-in-spec : {M : Type 1} → statement M
-put-in-spec = tie.close (tie.spec slice-aggregate-edit-fields edit-fields-requires returns)
+put-in-spec = tie.close (tie.spec edit-fields-requires returns)

@@ -7,7 +7,7 @@ use Rattle.values.specs.Value.{shift, value}
 use Rattle.values.specs.declared.Read.the-variants.{Whole}
 use Rattle.values.proofs.Local.{value-good}
 use Rattle.tuples.specs.Limits.{fieldDepth}
-use Rattle.loading.proofs.Measures.{Sofar, begin, place-after, next-whole, next-broken, all-whole}
+use Rattle.loading.proofs.Measures.{Sofar, begin, place-after, length-there, next-whole, next-broken, all-whole}
 use borrow.Author.Needs.{needs}
 use Rattle.loading.proofs.measure.Statement.{statement}
 use Rattle.loading.proofs.measure.Tie as tie
@@ -48,6 +48,12 @@ enum-known-end c = search needs
 sub-lengths : tie.Need-sub-lengths Inv-loop μ-loop
 sub-lengths c = let e = place-after (value-good fieldDepth) (at-loop c .loop .inv .2) (omega arith) (whole c) in omega arith
 
+cast-lengths : tie.Need-cast-lengths Inv-loop μ-loop
+cast-lengths c =
+    let l = at-loop c in
+    let e = length-there (value-good fieldDepth) (l .loop .inv .2) (omega arith) (whole c) in
+    omega (arith, l .before .before .before .pre .1)
+
 mul-lengths : tie.Need-mul-lengths Inv-loop μ-loop
 mul-lengths c = search needs
 
@@ -84,6 +90,7 @@ measure-spec =
     returns
     enum-known-end
     sub-lengths
+    cast-lengths
     mul-lengths
     slice-write-lengths
     add-i
