@@ -61,11 +61,7 @@ fn lay(tuple: &[u8], at: usize, n: usize, scratch: &mut [u8], lengths: &mut [u16
     Loaded::Fields(n)
 }
 
-pub fn load(
-    tuple: &[u8],
-    scratch: &mut [u8; MAX_TUPLE],
-    lengths: &mut [u16; MAX_FIELDS],
-) -> Loaded
+pub fn load(tuple: &[u8], scratch: &mut [u8; MAX_TUPLE], lengths: &mut [u16; MAX_FIELDS]) -> Loaded
     ensures { λ r. ⌜ Laid r (now (scratch .exit)) (now (lengths .exit)) (now (scratch .entry)) (now (lengths .entry))
         (fieldsOf (now (tuple .entry))) (measured (now (tuple .entry))) ⌝ }
 {

@@ -126,13 +126,7 @@ fn copy_lengths(s: &mut [u16], at: usize, piece: &[u16])
 }
 
 // The same of lengths.
-pub fn splice_lengths(
-    s: &mut [u16],
-    total: usize,
-    at: usize,
-    gone: usize,
-    piece: &[u16],
-) -> bool
+pub fn splice_lengths(s: &mut [u16], total: usize, at: usize, gone: usize, piece: &[u16]) -> bool
     ensures { λ r. ⌜ (r ≡ fits (length (now (s .entry))) total at gone (length (now (piece .entry))))
         × (now (s .exit) ≡ replaced total at gone (now (piece .entry)) (now (s .entry))) ⌝ }
 {

@@ -48,11 +48,11 @@ rest-acting l base z NoAction = refl
 
 -- ---- operations one after the other
 
-abbrev presentRest : ℕ → ℕ → Option Bytes → Bool
+abbrev pub presentRest : ℕ → ℕ → Option Bytes → Bool
 presentRest base n none = false
 presentRest base n (some t) = present (operations base n t)
 
-one-more : (base n : ℕ) (s : Bytes) → present (operations base (suc n) s) ≡ presentRest base n (restOf (operation base s))
+pub one-more : (base n : ℕ) (s : Bytes) → present (operations base (suc n) s) ≡ presentRest base n (restOf (operation base s))
 unfolding operations andMore before
 one-more base n s = go (operation base s)
   where

@@ -1,6 +1,6 @@
 -- The two calls, from the judgement to what is delivered. Assumes nothing.
 use mathlib.Core.Path.{_≡_, refl, sym, ap, _∙_}
-use mathlib.Core.Bool.{true}
+use mathlib.Core.Bool.{true, false}
 use mathlib.Core.List.{List, [], _∷_, _++_}
 use mathlib.Core.Option.{Option, none, some}
 use Prim.Native.Nat.{ℕ, zero, suc, _≤_}
@@ -12,7 +12,7 @@ use Rattle.writing.specs.Forms.{arrayHeader}
 use Rattle.tuples.specs.Tuple.{Fields, plain, fieldsOf}
 use Rattle.tuples.specs.Decoding.{Got, fails, gets}
 use Rattle.tuples.specs.Operation.{Operation, operation, before, andMore, operations, operationsOf}
-use Rattle.tuples.specs.Edit.{planOf, Plan, plans, step, Step, stop, next, perform, Run, run, onward, undoOf, onStep, inverse}
+use Rattle.tuples.specs.Edit.{planOf, Plan, plans, step, Step, stop, next, perform, Run, done, run, onward, undoOf, onStep, inverse}
 use Rattle.tuples.specs.Call.{Outcome, refusal, bytes, judged, onRun, updateOf, update, undoListOf, undo, Result, delivered, updateCall, undoCall}
 use Rattle.tuples.specs.declared.Refusal.{Refusal}
 use Rattle.tuples.specs.declared.Refusal.the-variants.{BadTuple, BadList}
@@ -24,11 +24,9 @@ use Rattle.loading.specs.Loading.{answerBy, scratchBy, measured, Laid}
 use Rattle.loading.specs.declared.Loaded.{Loaded}
 use Rattle.loading.specs.declared.Loaded.the-variants.{Bad as BadLoad, Fields as Count}
 use Rattle.loading.proofs.Judged.{measured-all}
-use Rattle.operations.specs.Listing.{present, listed}
-use Rattle.operations.specs.declared.Listed.{Listed}
-use Rattle.operations.specs.declared.Listed.the-variants.{Good, Bad as BadListed}
-use Rattle.operations.proofs.Listing.{Judged, good, bad}
-use Rattle.updates.specs.Running.{planIn, after, runFrom, undoFrom, Runs}
+use Rattle.operations.specs.Listing.{present, restOf}
+use Rattle.operations.proofs.Listing.{presentRest, one-more, operations-end, Judged}
+use Rattle.updates.specs.Running.{planIn, after, runFrom, undoFrom, restFrom, Runs, Told}
 use Rattle.updates.specs.declared.run.Ran.{Ran}
 use Rattle.updates.specs.declared.run.Ran.the-variants.{Refused, Done}
 use Rattle.updates.specs.Carrying.{Refuses, Carries}
@@ -79,6 +77,26 @@ undo-is base (suc n) s os t h = go (λ r us u e. undo-is base n r us u e) (opera
         let m = more o (operations base n r) h in
         rw (m .1 .1) (ap (λ (l : List Bytes). l ++ inverse (planOf o t) t) (undone-same (perform (planOf o t) t) _ _ (λ u. ih r (m .0) u (m .1 .0))))
 
+-- where all were performed, all were read: they fill the bytes where none are left
+got : (base i n : ℕ) (s : Bytes) (t u : Fields) → runFrom base i n s t ≡ done u → present (operations base n s) ≡ present (operations base 0 (restFrom base n s))
+unfolding runFrom restFrom planIn after perform
+got base i zero s t u h = refl
+got base i (suc n) s t u h = one-more base n s ∙ go (λ r v e. got base (suc i) n r v u e) (operation base s) h
+  where
+    step-on : (r : Bytes) → ((v : Fields) → runFrom base (suc i) n r v ≡ done u → present (operations base n r) ≡ present (operations base 0 (restFrom base n r))) → (x : Step) → onward i x (runFrom base (suc i) n r) ≡ done u → present (operations base n r) ≡ present (operations base 0 (restFrom base n r))
+    step-on r ih (stop k) e = never (cc)
+    step-on r ih (next v) e = ih v e
+
+    go : ((r : Bytes) (v : Fields) → runFrom base (suc i) n r v ≡ done u → present (operations base n r) ≡ present (operations base 0 (restFrom base n r))) → (g : Got Operation) → onward i (perform (planIn g t) t) (runFrom base (suc i) n (after g)) ≡ done u
+        → presentRest base n (restOf g) ≡ present (operations base 0 (restFrom base n (after g)))
+    go ih fails e = never (cc)
+    go ih (gets o r) e = step-on r (ih r) (perform (planOf o t) t) e
+
+module _ (s' : Bytes) (l' : List ℕ) (back list : Bytes) (base n : ℕ) (s : Bytes) (t : Fields) where
+  pub told : (r : Ran) → Runs r s' l' back list base n s t → Told r list base n s
+  told (Refused k i) h = tt
+  told (Done z) h = operations-end base list (z .at) ∙ sym (got base 0 n s t _ (h .goes) ∙ ap (λ (x : Bytes). present (operations base 0 x)) (h .rest))
+
 -- ---- what was judged
 
 module _ (tuple : Bytes) {r : Loaded} {s' : Bytes} {l' : List ℕ} {s : Bytes} {l : List ℕ} (h : Laid r s' l' s l (fieldsOf tuple) (measured tuple)) where
@@ -111,15 +129,12 @@ pub record Begin (scratch : Bytes) (lengths : List ℕ) (tuple list : Bytes) (ba
   pub all : operationsOf base list ≡ some os
 
 module _ (tuple list : Bytes) (base : ℕ) where
-  pub begin : {s : Bytes} {l : List ℕ} {n count start : ℕ} → fieldsOf tuple ≡ some (fieldsIn s l n) → Fit s l n → {y : Listed} → y ≡ listed base list
-      → y ≡ Good count start → Begin s l tuple list base n count start
-  begin {s} {l} {n} {count} {start} e fit h q = go (operations base count (drop start list)) refl (j .there)
+  pub begin : {s : Bytes} {l : List ℕ} {n count start : ℕ} → fieldsOf tuple ≡ some (fieldsIn s l n) → Fit s l n → Judged base list count start
+      → present (operations base count (drop start list)) ≡ true → Begin s l tuple list base n count start
+  begin {s} {l} {n} {count} {start} e fit j p = go (operations base count (drop start list)) refl p
     where
-      j : Judged base list count start
-      j = good base list h q
-
-      go : (x : Option (List Operation)) → operations base count (drop start list) ≡ x → present (operations base count (drop start list)) ≡ true → Begin s l tuple list base n count start
-      go none i p = never (let w : present {A = List Operation} none ≡ true = rw i at p in cc)
+      go : (x : Option (List Operation)) → operations base count (drop start list) ≡ x → present x ≡ true → Begin s l tuple list base n count start
+      go none i p = never (cc)
       go (some os) i p = record { fields = e; fit = fit; few = j .few; os = os; there = i; all = j .all ∙ i }
 
   -- ---- what the two calls are to give
@@ -132,9 +147,17 @@ module _ (tuple list : Bytes) (base : ℕ) where
   unfolding judged
   bad-tuple e = both (λ go. rw e)
 
-  pub bad-list : {t : Fields} → fieldsOf tuple ≡ some t → {y : Listed} → y ≡ listed base list → y ≡ BadListed → Refuses BadList 0 tuple list base
+  pub bad-list : {t : Fields} → fieldsOf tuple ≡ some t → operationsOf base list ≡ none → Refuses BadList 0 tuple list base
   unfolding judged
-  bad-list e h q = both (λ go. rw (e, bad base list h q))
+  bad-list e h = both (λ go. rw (e, h))
+
+  -- a front that is judged, and operations that do not fill the list
+  pub not-filled : {count start : ℕ} → Judged base list count start → present (operations base count (drop start list)) ≡ false → operationsOf base list ≡ none
+  not-filled {count} {start} j p = j .all ∙ go (operations base count (drop start list)) p
+    where
+      go : (x : Option (List Operation)) → present x ≡ false → x ≡ none
+      go none p = refl
+      go (some os) p = never (cc)
 
   module _ {s : Bytes} {l : List ℕ} {n count start : ℕ} (b : Begin s l tuple list base n count start) where
     judged-is : (go : Fields → List Plan → Outcome) → judged (fieldsOf tuple) (operationsOf base list) go ≡ go (fieldsIn s l n) (plans (b .os))
@@ -144,7 +167,7 @@ module _ (tuple list : Bytes) (base : ℕ) where
     runs-is : run 0 (plans (b .os)) (fieldsIn s l n) ≡ runFrom base 0 count (drop start list) (fieldsIn s l n)
     runs-is = sym (run-is base 0 count (drop start list) (b .os) (fieldsIn s l n) (b .there))
 
-    pub carries : (r : Ran) (s' : Bytes) (l' : List ℕ) (back : Bytes) → Runs r s' l' back base count (drop start list) (fieldsIn s l n) → Carries r s' l' back tuple list base
+    pub carries : (r : Ran) (s' : Bytes) (l' : List ℕ) (back : Bytes) → Runs r s' l' back list base count (drop start list) (fieldsIn s l n) → Carries r s' l' back tuple list base
     unfolding update updateOf undo undoListOf onRun
     carries (Refused k i) s' l' back h = (omega (arith, b .few, h .1), judged-is updateOf ∙ rw (runs-is, h .0), judged-is undoListOf ∙ rw (runs-is, h .0))
     carries (Done z) s' l' back h = record {

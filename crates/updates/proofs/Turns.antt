@@ -13,7 +13,7 @@ use Rattle.tuples.specs.declared.Refusal.{Refusal}
 use Rattle.engine.specs.Held.{fieldsIn, Fit}
 use Rattle.undo_lists.specs.Laying.{Piled}
 use Rattle.undo_lists.proofs.Piles.{none-piled, piled-all}
-use Rattle.updates.specs.Running.{planIn, after, runFrom, undoFrom, Onward, Through}
+use Rattle.updates.specs.Running.{planIn, after, runFrom, undoFrom, restFrom, Onward, Through}
 use Rattle.updates.specs.declared.run.Stage.{Stage}
 
 module _ (base i n : ℕ) (s : Bytes) (t : Fields) where
@@ -30,6 +30,10 @@ module _ (base i n : ℕ) (s : Bytes) (t : Fields) where
   unfolding undoFrom
   undoes e = rw e
 
+  rests : {r : Bytes} → after (operation base s) ≡ r → restFrom base n r ≡ restFrom base (suc n) s
+  unfolding restFrom
+  rests e = rw (← e)
+
 -- i operations of n are performed: what is left to do is what was to be done; and the operations us lie on the undo list
 pub record Sofar (base n : ℕ) (from : Bytes) (t₀ : Fields) (list scratch : Bytes) (lengths : List ℕ) (undo : Bytes) (z : Stage) (i : ℕ) : Type 0 where
   pub goes : runFrom base i (n - i) (drop (z .at) list) (fieldsIn scratch lengths (z .fields)) ≡ runFrom base 0 n from t₀
@@ -37,11 +41,12 @@ pub record Sofar (base n : ℕ) (from : Bytes) (t₀ : Fields) (list scratch : B
   pub piled : Piled undo (z .bytes) us
   pub laid : z .laid ≡ length us
   pub all : undoFrom base (n - i) (drop (z .at) list) (fieldsIn scratch lengths (z .fields)) ++ us ≡ undoFrom base n from t₀
+  pub rest : restFrom base (n - i) (drop (z .at) list) ≡ restFrom base n from
 
 pub begin : (base n : ℕ) (list scratch : Bytes) (lengths : List ℕ) (undo : Bytes) (fields start : ℕ)
     → Sofar base n (drop start list) (fieldsIn scratch lengths fields) list scratch lengths undo (record { fields = fields; laid = 0; bytes = 0; at = start }) 0
 begin base n list scratch lengths undo fields start =
-    record { goes = rw sub-zero; us = []; piled = none-piled undo; laid = refl; all = rw (sub-zero, append-nil) }
+    record { goes = rw sub-zero; us = []; piled = none-piled undo; laid = refl; all = rw (sub-zero, append-nil); rest = rw sub-zero }
 
 module _ {base n : ℕ} {from : Bytes} {t₀ : Fields} {list scratch : Bytes} {lengths : List ℕ} {undo : Bytes} {z : Stage} {i : ℕ}
     (f : Sofar base n from t₀ list scratch lengths undo z i) where
@@ -68,11 +73,12 @@ module _ {base n : ℕ} {from : Bytes} {t₀ : Fields} {list scratch : Bytes} {l
         piled = rw (o .buffer, o .bytes) (piled-all v (f .us) undo (z .bytes) (f .piled));
         laid = o .laid ∙ (let e = length-append v (f .us) in let d = f .laid in omega arith);
         all = sym (append-assoc (undoFrom base (n - (i + 1)) (drop (z' .at) list) (fieldsIn scratch' lengths' (z' .fields))) v (f .us)) ∙ ap (λ (l : List Bytes). l ++ f .us) (sym k) ∙ rw (← m) (f .all);
+        rest = rests base i (n - (i + 1)) s t (o .rest) ∙ rw (← m) (f .rest);
       }
 
-  pub run-through : i ≡ n → Fit scratch lengths (z .fields) → Through z scratch lengths undo base n from t₀
-  unfolding runFrom undoFrom
+  pub run-through : i ≡ n → Fit scratch lengths (z .fields) → Through z scratch lengths undo list base n from t₀
+  unfolding runFrom undoFrom restFrom
   run-through e fit =
       let m : n - i ≡ 0 = omega arith in
       let a : f .us ≡ undoFrom base n from t₀ = rw m at (f .all) in
-      record { goes = sym (rw m at (f .goes)); fit = fit; laid = f .laid ∙ ap length a; piled = rw (← a) (f .piled) }
+      record { goes = sym (rw m at (f .goes)); fit = fit; rest = sym (rw m at (f .rest)); laid = f .laid ∙ ap length a; piled = rw (← a) (f .piled) }

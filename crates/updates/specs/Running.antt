@@ -2,16 +2,18 @@
 use Prim.Native.Nat.{ℕ, zero, suc, _+_, _<_, _≤_}
 use mathlib.Core.Path.{_≡_}
 use mathlib.Core.List.{List, [], _++_}
+use lib.Dec.{leb}
 use lib.ListN.{length, drop}
 use Rattle.first_bytes.specs.Bytes.{Bytes}
 use Rattle.tuples.specs.Limits.{maxFields}
 use Rattle.tuples.specs.Tuple.{Fields}
 use Rattle.tuples.specs.Decoding.{Got, fails, gets}
-use Rattle.tuples.specs.Operation.{Operation, operation}
+use Rattle.tuples.specs.Operation.{Operation, operation, operations}
 use Rattle.tuples.specs.Edit.{Edit, refuse, planOf, stop, next, perform, Run, refused, done, onward, inverse, onStep}
 use Rattle.tuples.specs.declared.Refusal.the-variants.{BadList}
 use Rattle.engine.specs.Held.{fieldsIn, Fit}
 use Rattle.operations.specs.Found.{actionIn, endOf}
+use Rattle.operations.specs.Listing.{present}
 use Rattle.operations.specs.declared.Ended.the-variants.{At}
 use Rattle.operations.proofs.Opening.{actingIn}
 use Rattle.planning.specs.Plan.{Means}
@@ -44,6 +46,11 @@ unfoldable pub undoFrom : ℕ → ℕ → Bytes → Fields → List Bytes
 undoFrom base zero s t = []
 undoFrom base (suc n) s t =
     onStep (perform (planIn (operation base s) t) t) (undoFrom base n (after (operation base s))) ++ inverse (planIn (operation base s) t) t
+
+-- the bytes after n of them
+unfoldable pub restFrom : ℕ → ℕ → Bytes → Bytes
+restFrom base zero s = s
+restFrom base (suc n) s = restFrom base n (after (operation base s))
 
 -- ---- what the parts of the two calls tell each other
 
@@ -81,13 +88,19 @@ abbrev pub Steps : Stepped → Bytes → List ℕ → Bytes → Bytes → Bytes 
 Steps (Stop k) scratch lengths undo list undo₀ z₀ g t = perform (planIn g t) t ≡ stop k
 Steps (Next z) scratch lengths undo list undo₀ z₀ g t = Onward z scratch lengths undo list undo₀ z₀ g t
 
--- after all of them: what takes them back lies at the end of the undo list's buffer
-pub record Through (z : Stage) (scratch : Bytes) (lengths : List ℕ) (undo : Bytes) (base n : ℕ) (s : Bytes) (t : Fields) : Type 0 where
+-- after all of them: the place after the last; and what takes them back lies at the end of the undo list's buffer
+pub record Through (z : Stage) (scratch : Bytes) (lengths : List ℕ) (undo : Bytes) (list : Bytes) (base n : ℕ) (s : Bytes) (t : Fields) : Type 0 where
   pub goes : runFrom base 0 n s t ≡ done (fieldsIn scratch lengths (z .fields))
   pub fit : Fit scratch lengths (z .fields)
+  pub rest : restFrom base n s ≡ drop (z .at) list
   pub laid : z .laid ≡ length (undoFrom base n s t)
   pub piled : Piled undo (z .bytes) (undoFrom base n s t)
 
-abbrev pub Runs : Ran → Bytes → List ℕ → Bytes → ℕ → ℕ → Bytes → Fields → Type 0
-Runs (Refused k i) scratch lengths undo base n s t = (runFrom base 0 n s t ≡ refused k i) × (i < n)
-Runs (Done z) scratch lengths undo base n s t = Through z scratch lengths undo base n s t
+abbrev pub Runs : Ran → Bytes → List ℕ → Bytes → Bytes → ℕ → ℕ → Bytes → Fields → Type 0
+Runs (Refused k i) scratch lengths undo list base n s t = (runFrom base 0 n s t ≡ refused k i) × (i < n)
+Runs (Done z) scratch lengths undo list base n s t = Through z scratch lengths undo list base n s t
+
+-- where all were performed, they fill the list exactly where nothing stands after them
+abbrev pub Told : Ran → Bytes → ℕ → ℕ → Bytes → Type 0
+Told (Refused k i) list base n s = Unit {0}
+Told (Done z) list base n s = leb (length list) (z .at) ≡ present (operations base n s)

@@ -1,4 +1,5 @@
-// What both calls do before either writes: tuple and list are judged, then the operations run.
+// What both calls do before either writes: the tuple and the list's front are judged, the operations
+// run, each as it is read, and the list as a whole is judged by that.
 use crate::run::Ran;
 use loading::Loaded;
 use operations::Listed;
@@ -24,11 +25,11 @@ pub(crate) fn carry_out(
     let Loaded::Fields(n) = loading::load(tuple, scratch, lengths) else {
         return Ran::Refused(Refusal::BadTuple, 0);
     };
-    let Listed::Good(count, start) = operations::judge_list(list, base) else {
+    let Listed::Good(count, start) = operations::front_of(list, base) else {
         return Ran::Refused(Refusal::BadList, 0);
     };
     let mut work = [0u8; MAX_TUPLE];
-    crate::run::run(
+    let ran = crate::run::run(
         list,
         start,
         count,
@@ -38,5 +39,9 @@ pub(crate) fn carry_out(
         n,
         &mut work,
         undo,
-    )
+    );
+    if crate::run::filled(list, start, count, base, ran) {
+        return ran;
+    }
+    Ran::Refused(Refusal::BadList, 0)
 }

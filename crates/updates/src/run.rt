@@ -12,9 +12,10 @@ ghost use mathlib.Core.Path.{_≡_};
 ghost use Prim.Native.Nat.{_*_, _<_, _≤_};
 ghost use lib.ListN.{length, drop};
 ghost use Rattle.tuples.specs.Limits.{maxFields, maxTuple, maxOperations};
-ghost use Rattle.tuples.specs.Operation.{operation};
+ghost use Rattle.tuples.specs.Operation.{operation, operations};
+ghost use Rattle.operations.specs.Listing.{present};
 ghost use Rattle.engine.specs.Held.{fieldsIn, Fit};
-ghost use Rattle.updates.specs.Running.{Decodes, Prepares, weightOf, Steps, Runs};
+ghost use Rattle.updates.specs.Running.{Decodes, Prepares, weightOf, Steps, Runs, Told};
 
 // An operation's field number as it was sent, its action, and the place after it.
 enum Decoded {
@@ -148,7 +149,7 @@ pub(crate) fn run(
     undo: &mut [u8],
 ) -> Ran
     requires { ⌜ Fit (now scratch) (now lengths) n × (count ≤ maxOperations) ⌝ }
-    ensures { λ r. ⌜ Runs r (now (scratch .exit)) (now (lengths .exit)) (now (undo .exit)) base count (drop start (now (list .entry)))
+    ensures { λ r. ⌜ Runs r (now (scratch .exit)) (now (lengths .exit)) (now (undo .exit)) (now (list .entry)) base count (drop start (now (list .entry)))
         (fieldsIn (now (scratch .entry)) (now (lengths .entry)) n) ⌝ }
 {
     let mut stage = Stage {
@@ -170,4 +171,16 @@ pub(crate) fn run(
         i += 1;
     }
     Ran::Done(stage)
+}
+
+// Whether the operations fill the list: where all were performed, whether the list ends there; else
+// they are read again, all of them, since a list that is refused is refused before any of them.
+pub(crate) fn filled(list: &[u8], start: usize, count: usize, base: u64, ran: Ran) -> bool
+    requires { ⌜ Told ran (now list) base count (drop start (now list)) ⌝ }
+    ensures { λ r. ⌜ r ≡ present (operations base count (drop start (now (list .entry)))) ⌝ }
+{
+    match ran {
+        Ran::Refused(_, _) => operations::fill_list(list, start, count, base),
+        Ran::Done(stage) => list.len() <= stage.at,
+    }
 }

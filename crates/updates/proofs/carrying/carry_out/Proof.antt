@@ -1,9 +1,10 @@
--- By what was loaded, what was judged and what was run. Assumes nothing.
-use mathlib.Core.Path.{_≡_}
+-- By what was loaded, what the list's front tells, what was run and whether the list is filled. Assumes nothing.
+use mathlib.Core.Path.{_≡_, sym, _∙_}
 use mathlib.Core.Option.{some}
 use Rattle.tuples.specs.Tuple.{fieldsOf}
 use Rattle.engine.specs.Held.{fieldsIn, Fit}
-use Rattle.updates.proofs.Calls.{not-loaded, loaded, Begin, begin, bad-tuple, bad-list, carries}
+use Rattle.operations.proofs.Listing.{Judged, good, bad}
+use Rattle.updates.proofs.Calls.{told, not-loaded, loaded, begin, bad-tuple, bad-list, not-filled, carries}
 use borrow.Author.Needs.{needs}
 use Rattle.updates.proofs.carrying.carry_out.Statement.{statement}
 use Rattle.updates.proofs.carrying.carry_out.Tie as tie
@@ -15,13 +16,12 @@ held k =
     let o = l .before .before .before .before .before .before in
     loaded (o .args .tuple .now) (l .load .ensures) (k .before .n .given .1) (o .pre .0) (o .pre .1)
 
--- and the operations of the list stand there
-begun : (k : tie.After-known-told2) → (let f = k .before .before .before .before in let l = f .before .before .before in let a = l .before .before .before .before .before .before .args in let t = l .load .last .1 in let x = k .before .count .given .0 in Begin (t .0) (t .1 .0) (a .tuple .now) (a .list .now) (a .base) (f .before .n .given .0 .0) (x .0) (x .1 .0))
-begun k =
+-- and so many operations are due from a place of the list on
+due : (k : tie.After-known-told2) → (let a = k .before .before .before .before .before .before .before .before .before .before .before .before .before .args in let x = k .before .count .given .0 in Judged (a .base) (a .list .now) (x .0) (x .1 .0))
+due k =
     let j = k .before .before .before in
     let a = j .before .before .before .before .before .before .before .before .before .before .args in
-    let f = held (j .before) in
-    begin (a .tuple .now) (a .list .now) (a .base) (f .0) (f .1) (j .judge-list .ensures) (k .before .count .given .1)
+    good (a .base) (a .list .now) (j .front-of .ensures) (k .before .count .given .1)
 
 load-requires : tie.Need-load-requires
 load-requires c κs = search needs
@@ -38,8 +38,8 @@ returns c =
     let a = l .before .before .before .before .before .before .args in
     bad-tuple (a .tuple .now) (a .list .now) (a .base) (not-loaded (a .tuple .now) (l .load .ensures) (c .enum-told .given .1))
 
-judge-list-requires : tie.Need-judge-list-requires
-judge-list-requires c κs = search needs
+front-of-requires : tie.Need-front-of-requires
+front-of-requires c κs = search needs
 
 enum-known-count : tie.Need-enum-known-count
 enum-known-count c = search needs
@@ -51,21 +51,36 @@ returns-2 : tie.Need-returns-2
 returns-2 c =
     let j = c .before .before in
     let a = j .before .before .before .before .before .before .before .before .before .before .args in
-    bad-list (a .tuple .now) (a .list .now) (a .base) (held (j .before) .0) (j .judge-list .ensures) (c .enum-told2 .given .1)
+    bad-list (a .tuple .now) (a .list .now) (a .base) (held (j .before) .0) (bad (a .base) (a .list .now) (j .front-of .ensures) (c .enum-told2 .given .1))
 
 run-requires : tie.Need-run-requires
-run-requires c κs = let q = begun (c .before .before .before .before) in (q .fit, q .few)
+run-requires c κs = let k = c .before .before .before .before in (held (k .before .before .before .before) .1, due k .few)
+
+filled-requires : tie.Need-filled-requires
+filled-requires c κs = let r = c .before .before in told _ _ _ _ _ _ _ _ (r .run .result) (r .run .ensures)
 
 same-length : tie.Need-same-length
 same-length c = search needs
 
 returns-3 : tie.Need-returns-3
 returns-3 c =
-    let r = c .before .before in
+    let r = c .before .before .before .before in
     let k = r .before .before .before .before .before in
+    let f = held (k .before .before .before .before) in
     let a = k .before .before .before .before .before .before .before .before .before .before .before .before .before .args in
     let t = r .run .last .1 .1 .1 .1 in
-    carries (a .tuple .now) (a .list .now) (a .base) (begun k) (r .run .result) (t .0) (t .1 .0) (t .1 .1 .1 .1 .0) (r .run .ensures)
+    carries (a .tuple .now) (a .list .now) (a .base) (begin (a .tuple .now) (a .list .now) (a .base) (f .0) (f .1) (due k) (sym (c .before .filled .ensures) ∙ c .if1 .taken))
+    (r .run .result) (t .0) (t .1 .0) (t .1 .1 .1 .1 .0) (r .run .ensures)
+
+same-length-2 : tie.Need-same-length-2
+same-length-2 c = search needs
+
+returns-4 : tie.Need-returns-4
+returns-4 c =
+    let k = c .before .before .before .before .before .before .before .before .before in
+    let a = k .before .before .before .before .before .before .before .before .before .before .before .before .before .args in
+    bad-list (a .tuple .now) (a .list .now) (a .base) (held (k .before .before .before .before) .0)
+    (not-filled (a .tuple .now) (a .list .now) (a .base) (due k) (sym (c .before .filled .ensures) ∙ c .if1 .left))
 
 pub carry-out-spec : {M : Type 1} → statement M
 carry-out-spec =
@@ -75,10 +90,13 @@ carry-out-spec =
     enum-known-n
     enum-told
     returns
-    judge-list-requires
+    front-of-requires
     enum-known-count
     enum-told-2
     returns-2
     run-requires
+    filled-requires
     same-length
-    returns-3)
+    returns-3
+    same-length-2
+    returns-4)
