@@ -4,7 +4,7 @@ use mathlib.Core.List.{List, [], _∷_}
 use mathlib.Core.Option.{Option, none, some}
 use Prim.Native.Nat.{ℕ, zero, suc, _+_, _≤_}
 use borrow.Author.Tests.{eq-eqb, ne-eqb}
-use lib.ListN.{length, getD, set, replicate}
+use lib.ListN.{length, getD, set}
 use Rattle.first_bytes.specs.Bytes.{Bytes}
 use Rattle.frames.specs.Keys.{nowhere}
 use Rattle.frames.specs.Maps.{Entry, entryAt, entries, placed}
@@ -36,10 +36,6 @@ laid-twice e t h = rw (ne-eqb _ 0 h)
 pub table-eq : {n n' : ℕ} {a a' b b' : List ℕ} → a ≡ a' → b ≡ b' → n ≡ n'
     → table n a b ≡ table n' a' b'
 table-eq p q r = rw (p, q, r)
-
-pub emptied : {a b : List ℕ} → a ≡ replicate 128 0 → b ≡ replicate 128 0 → table 6 a b ≡ emptyTable 6
-unfolding emptyTable
-emptied p q = table-eq p q refl
 
 -- ---- a look-up
 

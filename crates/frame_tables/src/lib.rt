@@ -5,11 +5,11 @@ use scalars::Natural;
 use scalars::Opening;
 use values::Read;
 ghost use mathlib.Core.Path.{_≡_};
-ghost use lib.ListN.{getD, replicate};
+ghost use lib.ListN.{getD};
 ghost use Rattle.frames.specs.Keys.{nowhere};
 ghost use Rattle.frames.specs.Limits.{heldDepth};
 ghost use Rattle.frames.specs.Maps.{entryAt, entries, entriesAt};
-ghost use Rattle.frame_tables.specs.Tables.{table, stepOf, tabledOn, placeIn};
+ghost use Rattle.frame_tables.specs.Tables.{table, stepOf, emptyTable, tabledOn, placeIn};
 
 // One key of a map with its value's start and length, or that it is no key.
 enum Step {
@@ -33,11 +33,13 @@ fn entry_at(s: &[u8], at: usize) -> Step
     Step::Entry(key as usize, start, end - start)
 }
 
-// No key has a place: what a table of no map is.
-fn clear(list: &mut [usize; 128])
-    ensures { λ r. ⌜ now (list .exit) ≡ replicate 128 0 ⌝ }
+// 6, and the table emptied: what was laid before says nothing then.
+fn no_table(starts: &mut [usize; 128], lengths: &mut [usize; 128]) -> u32
+    ensures { λ r. ⌜ table r (now (starts .exit)) (now (lengths .exit)) ≡ emptyTable 6 ⌝ }
 {
-    *list = [0usize; 128];
+    *starts = [0usize; 128];
+    *lengths = [0usize; 128];
+    6
 }
 
 // `count` entries from `from` on. It goes on after a key that stood before, since 6 beats 7.
@@ -56,9 +58,7 @@ fn table_of(
     let mut left = count;
     while 0 < left {
         let Step::Entry(key, start, length) = entry_at(s, at) else {
-            clear(starts);
-            clear(lengths);
-            return 6;
+            return no_table(starts, lengths);
         };
         if lengths[key] == 0 {
             starts[key] = start;
@@ -72,20 +72,16 @@ fn table_of(
     number
 }
 
-// The value at `at` into the lent table, which is all 0 before: where the value of each key starts,
-// and its length, 0 where the key is absent. The answer is 6 where the value is no map or a key no
-// number below 128 (the table is all 0 then), 7 where a key stands twice, else 0.
+// The value at `at` laid into a table, lent all 0: where each key's value starts, and its length,
+// which stays 0 where the key is absent. The answer is 6 where the value is no map or a key no
+// number below 128, 7 where a key stands twice, else 0.
 pub fn table_at(s: &[u8], at: usize, starts: &mut [usize; 128], lengths: &mut [usize; 128]) -> u32
     ensures { λ r. ⌜ table r (now (starts .exit)) (now (lengths .exit))
         ≡ tabledOn (table 0 (now (starts .entry)) (now (lengths .entry))) (entriesAt heldDepth (now (s .entry)) at) ⌝ }
 {
     match scalars::header_at(s, at, Opening::Map) {
         Header::Is(count, from) => table_of(s, count, from, starts, lengths),
-        Header::Other => {
-            clear(starts);
-            clear(lengths);
-            6
-        }
+        Header::Other => no_table(starts, lengths),
     }
 }
 

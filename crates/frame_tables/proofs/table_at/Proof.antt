@@ -4,7 +4,6 @@ use borrow.Author.Needs.{needs}
 use Rattle.frames.specs.Limits.{heldDepth}
 use Rattle.frame_tables.specs.Tables.{table, tabledOn}
 use Rattle.frame_tables.proofs.Entries.{no-map, a-map}
-use Rattle.frame_tables.proofs.Tables.{emptied}
 use Rattle.frame_tables.proofs.table_at.Statement.{statement}
 use Rattle.frame_tables.proofs.table_at.Tie as tie
 
@@ -20,11 +19,8 @@ table-of-requires c κs = search needs
 enum-told : tie.Need-enum-told
 enum-told c = search needs
 
-clear-requires : tie.Need-clear-requires
-clear-requires c κs = search needs
-
-clear-requires-2 : tie.Need-clear-requires-2
-clear-requires-2 c κs = search needs
+no-table-requires : tie.Need-no-table-requires
+no-table-requires c κs = search needs
 
 returns : tie.Need-returns
 returns c =
@@ -37,10 +33,10 @@ returns c =
 returns-2 : tie.Need-returns-2
 unfolding tabledOn
 returns-2 c =
-    let o = c .before .before .before .before in
+    let o = c .before .before .before in
     let b = o .before .before in
     let a = b .before .before .args in
-    emptied (c .before .before .clear .ensures) (c .clear2 .ensures)
+    c .no-table .ensures
     ∙ sym (ap (tabledOn (table 0 (a .starts .now) (a .lengths .now))) (no-map heldDepth (a .s .now) (a .at) (sym (o .enum-told .given .1) ∙ b .header-at .ensures)))
 
 pub table-at-spec : {M : Type 1} → statement M
@@ -51,7 +47,6 @@ table-at-spec =
     enum-known-count
     table-of-requires
     enum-told
-    clear-requires
-    clear-requires-2
+    no-table-requires
     returns
     returns-2)

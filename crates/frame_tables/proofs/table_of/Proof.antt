@@ -7,9 +7,9 @@ use native.Mathlib.Omega.{arith}
 use borrow.Author.Needs.{needs}
 use Rattle.frames.specs.Limits.{heldDepth}
 use Rattle.frames.specs.Maps.{Entry, entry, entryAt, entries}
-use Rattle.frame_tables.specs.Tables.{Table, table, emptyTable, laidAll, tabledOn}
+use Rattle.frame_tables.specs.Tables.{Table, table, laidAll, tabledOn}
 use Rattle.frame_tables.proofs.Entries.{Fits, entry-fits, step-none, step-some}
-use Rattle.frame_tables.proofs.Tables.{table-none, table-next, laid-new, laid-twice, table-eq, emptied}
+use Rattle.frame_tables.proofs.Tables.{table-none, table-next, laid-new, laid-twice, table-eq}
 use Rattle.frame_tables.proofs.table_of.Statement.{statement}
 use Rattle.frame_tables.proofs.table_of.Tie as tie
 
@@ -32,11 +32,8 @@ enum-known-key c = search needs
 enum-told : tie.Need-enum-told Inv-loop μ-loop
 enum-told c = search needs
 
-clear-requires : tie.Need-clear-requires Inv-loop μ-loop
-clear-requires c κs = search needs
-
-clear-requires-2 : tie.Need-clear-requires-2 Inv-loop μ-loop
-clear-requires-2 c κs = search needs
+no-table-requires : tie.Need-no-table-requires Inv-loop μ-loop
+no-table-requires c κs = search needs
 
 -- what is left, with one entry taken from its count
 left-one : (c : tie.In-loop Inv-loop μ-loop) →
@@ -59,11 +56,11 @@ fits c = entry-fits heldDepth _ _ (read c) (is-read c)
 
 returns : tie.Need-returns Inv-loop μ-loop
 returns c =
-    let o = c .before .before .before .before in
+    let o = c .before .before .before in
     let i = o .before .before .before in
     let a = i .before .before .before .args in
     let l = i .before .loop in
-    emptied (c .before .before .clear .ensures) (c .clear2 .ensures)
+    c .no-table .ensures
     ∙ sym (table-none heldDepth (a .s .now) (l .left - 1) (l .at) (table (l .number) (l .starts) (l .lengths)) (step-none _ (sym (o .enum-told .given .1) ∙ o .before .before .entry-at .ensures)))
     ∙ left-one i
 
@@ -125,8 +122,7 @@ table-of-spec =
     entry-at-requires
     enum-known-key
     enum-told
-    clear-requires
-    clear-requires-2
+    no-table-requires
     returns
     mul-if1
     element-copy-out-if1
