@@ -1,14 +1,13 @@
 -- 1 to 5: the size number, the header and the body. Assumes nothing.
-use mathlib.Core.Path.{_≡_, refl, sym, subst, ap, ap₂, _∙_}
-use mathlib.Core.List.{List, [], _∷_}
+use mathlib.Core.Path.{_≡_, refl, sym, ap, _∙_}
+use mathlib.Core.List.{[], _∷_}
 use mathlib.Core.Bool.{Bool, true, false, _&&_}
-use mathlib.Core.Option.{Option, none, some}
 use Prim.Native.Nat.{ℕ, suc, _+_, _-_, _<_, _≤_}
 use native.Mathlib.Nat.{zero-add}
 use native.Mathlib.Omega.{arith}
-use borrow.Author.Tests.{le-leb, lt-leb, lt-ltb, le-ltb, eq-eqb, ne-eqb, leb-true, leb-false, ltb-true, ltb-false}
+use borrow.Author.Tests.{le-leb, lt-leb, eq-eqb, ne-eqb, leb-true, leb-false, ltb-true, ltb-false}
 use lib.Dec.{leb, ltb, eqb}
-use lib.ListN.{length, take, drop, getD, length-drop, drop-of-length-le}
+use lib.ListN.{length, take, drop, length-drop, drop-of-length-le}
 use lib.Seq.{drop-cons}
 use Rattle.first_bytes.specs.Bytes.{Bytes, pick}
 use Rattle.values.specs.Value.{shift, value}
@@ -22,7 +21,7 @@ use Rattle.scalars.specs.Integer.{dueIn, due, unsignedBy, unsigned, shiftNatura
 use Rattle.scalars.specs.declared.Start.{Start}
 use Rattle.scalars.specs.declared.Start.the-variants.{Here, Elsewhere}
 use Rattle.scalars.specs.declared.Due.{Due}
-use Rattle.scalars.specs.declared.Due.the-variants.{More, Cut as CutDue, Other as OtherDue}
+use Rattle.scalars.specs.declared.Due.the-variants.{More, Cut as CutDue}
 use Rattle.scalars.specs.declared.Natural.{Natural}
 use Rattle.scalars.specs.declared.Natural.the-variants.{Is, Cut, Other}
 use Rattle.frames.specs.declared.FrameAnswer.{FrameAnswer}
@@ -33,7 +32,6 @@ use Rattle.frames.specs.Maps.{entriesAt}
 use Rattle.frames.specs.Cascade.{check, whole}
 use Rattle.frames.specs.Reading.{refuse, byEntries, bodyValue, bodyEntries, inFrame, sizeBy, sizeOf, bySize, frameRead}
 use Rattle.frame_reading.specs.Steps.{bodyAt, entriesIn}
-use Rattle.frame_reading.specs.declared.Body.{Body}
 use Rattle.frame_reading.specs.declared.Body.the-variants.{At, Missing}
 
 impossible : {A : Type 0} → _≡_ {A = ℕ} 0 1 → A

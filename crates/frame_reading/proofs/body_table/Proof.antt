@@ -1,5 +1,5 @@
 -- A body's map, or none. Assumes nothing.
-use mathlib.Core.Path.{refl, sym, ap, _∙_}
+use mathlib.Core.Path.{sym, ap, _∙_}
 use borrow.Author.Needs.{needs}
 use Rattle.frame_tables.specs.Tables.{table, tabledOn, laidAll}
 use Rattle.frame_reading.specs.declared.Body.{Body}
