@@ -1,14 +1,13 @@
 -- 1 to 5: the size number, the header and the body. Assumes nothing.
-use mathlib.Core.Path.{_≡_, refl, sym, subst, ap, ap₂, _∙_}
-use mathlib.Core.List.{List, [], _∷_}
+use mathlib.Core.Path.{_≡_, refl, sym, ap, _∙_}
+use mathlib.Core.List.{[], _∷_}
 use mathlib.Core.Bool.{Bool, true, false, _&&_}
-use mathlib.Core.Option.{Option, none, some}
 use Prim.Native.Nat.{ℕ, suc, _+_, _-_, _<_, _≤_}
 use native.Mathlib.Nat.{zero-add}
 use native.Mathlib.Omega.{arith}
-use borrow.Author.Tests.{le-leb, lt-leb, lt-ltb, le-ltb, eq-eqb, ne-eqb, leb-true, leb-false, ltb-true, ltb-false}
+use borrow.Author.Tests.{le-leb, lt-leb, eq-eqb, ne-eqb, leb-true, leb-false, ltb-true, ltb-false}
 use lib.Dec.{leb, ltb, eqb}
-use lib.ListN.{length, take, drop, getD, length-drop, drop-of-length-le}
+use lib.ListN.{length, take, drop, length-drop, drop-of-length-le}
 use lib.Seq.{drop-cons}
 use Rattle.first_bytes.specs.Bytes.{Bytes, pick}
 use Rattle.values.specs.Value.{shift, value}
@@ -22,22 +21,18 @@ use Rattle.scalars.specs.Integer.{dueIn, due, unsignedBy, unsigned, shiftNatura
 use Rattle.scalars.specs.declared.Start.{Start}
 use Rattle.scalars.specs.declared.Start.the-variants.{Here, Elsewhere}
 use Rattle.scalars.specs.declared.Due.{Due}
-use Rattle.scalars.specs.declared.Due.the-variants.{More, Cut as CutDue, Other as OtherDue}
+use Rattle.scalars.specs.declared.Due.the-variants.{More, Cut as CutDue}
 use Rattle.scalars.specs.declared.Natural.{Natural}
 use Rattle.scalars.specs.declared.Natural.the-variants.{Is, Cut, Other}
 use Rattle.frames.specs.declared.FrameAnswer.{FrameAnswer}
 use Rattle.frames.specs.declared.Size.{Size}
 use Rattle.frames.specs.declared.Size.the-variants.{Promises, Refused}
 use Rattle.frames.specs.Limits.{maxSize, maxDepth, heldDepth}
-use Rattle.frames.specs.Maps.{Entry, entriesAt}
+use Rattle.frames.specs.Maps.{entriesAt}
 use Rattle.frames.specs.Cascade.{check, whole}
 use Rattle.frames.specs.Reading.{refuse, byEntries, bodyValue, bodyEntries, inFrame, sizeBy, sizeOf, bySize, frameRead}
-use Rattle.frame_tables.proofs.Entries.{AllFit, nil, all-fit}
-use Rattle.frame_tables.specs.Tables.{tabled}
-use Rattle.frame_reading.specs.Steps.{judged, bodyAt}
-use Rattle.frame_reading.specs.declared.Body.{Body}
+use Rattle.frame_reading.specs.Steps.{bodyAt, entriesIn}
 use Rattle.frame_reading.specs.declared.Body.the-variants.{At, Missing}
-use Rattle.frame_reading.proofs.Places.{Holds, judged-entries}
 
 impossible : {A : Type 0} → _≡_ {A = ℕ} 0 1 → A
 impossible z = absurd (omega arith)
@@ -86,13 +81,6 @@ broken s at p h = go (value maxDepth (drop at s)) refl h
     go (Whole n) e h = impossible cc
     go (Broken q) e h = (q, e)
 
-holds : (s : Bytes) (at : ℕ) → Holds s (entriesAt heldDepth s at)
-holds s at = go (entriesAt heldDepth s at) refl
-  where
-    go : (o : Option (List Entry)) → entriesAt heldDepth s at ≡ o → Holds s o
-    go none e = tt
-    go (some es) e = all-fit heldDepth s at es e
-
 module _ (s : Bytes) (at : ℕ) where
   pub no-header : (p : ℕ) → Broken p ≡ shift at (value maxDepth (drop at s)) → refuse 4 ≡ inFrame s at
   unfolding inFrame whole
@@ -109,14 +97,13 @@ module _ (s : Bytes) (at : ℕ) where
     unfolding inFrame whole after
     header-whole = let x = span s at end h in rw (x .is, ← (x .to))
 
-    pub no-body : length s ≤ end → judged s (tabled (entriesAt heldDepth s at)) (tabled (some [])) ≡ inFrame s at
-    unfolding after whole check bodyValue bodyEntries
+    pub no-body : length s ≤ end → byEntries s (entriesAt heldDepth s at) (entriesIn s Missing) ≡ inFrame s at
+    unfolding after whole check bodyValue bodyEntries entriesIn
     no-body l =
         let x = span s at end h in
         let i = x .inside in
         let e : end + 0 ≡ length s = omega arith in
-        judged-entries s (entriesAt heldDepth s at) (some []) (holds s at) nil
-        ∙ sym (header-whole ∙ rw (drop-of-length-le s l, eq-eqb (end + 0) (length s) e))
+        sym (header-whole ∙ rw (drop-of-length-le s l, eq-eqb (end + 0) (length s) e))
 
     module _ (l : end < length s) where
       body-is : (bodyValue (drop end s) ≡ value maxDepth (drop end s)) × (bodyEntries s end (drop end s) ≡ entriesAt heldDepth s end)
@@ -137,12 +124,11 @@ module _ (s : Bytes) (at : ℕ) where
       bytes-remain last q k = sym (body-whole last q ∙ rw (ne-eqb last (length s) (λ e. omega arith)))
 
       pub all-read : (last : ℕ) → Whole last ≡ shift end (value maxDepth (drop end s)) → length s ≤ last
-          → judged s (tabled (entriesAt heldDepth s at)) (tabled (entriesAt heldDepth s end)) ≡ inFrame s at
-      unfolding check
+          → byEntries s (entriesAt heldDepth s at) (entriesIn s (At end)) ≡ inFrame s at
+      unfolding check entriesIn
       all-read last q k =
           let i = span s end last q .inside in
-          judged-entries s (entriesAt heldDepth s at) (entriesAt heldDepth s end) (holds s at) (holds s end)
-          ∙ sym (body-whole last q ∙ rw (eq-eqb last (length s) (omega arith)))
+          sym (body-whole last q ∙ rw (eq-eqb last (length s) (omega arith)))
 
 -- ---- the size number
 

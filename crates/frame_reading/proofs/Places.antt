@@ -1,12 +1,12 @@
 -- 6 to 10: what the tables and look-ups say of the cascade. Assumes nothing.
-use mathlib.Core.Path.{_≡_, refl, sym, subst, ap, ap₂, _∙_}
-use mathlib.Core.List.{List, [], _∷_}
+use mathlib.Core.Path.{_≡_, refl, sym, ap, ap₂, _∙_}
+use mathlib.Core.List.{List}
 use mathlib.Core.Bool.{Bool, true, false, _&&_, _||_}
 use mathlib.Core.Option.{Option, none, some}
-use Prim.Native.Nat.{ℕ, suc, _+_, _-_, _<_, _≤_}
+use Prim.Native.Nat.{ℕ, _-_}
 use native.Mathlib.Omega.{arith}
 use lib.Dec.{eqb}
-use lib.ListN.{length, take}
+use lib.ListN.{length, take, replicate}
 use Rattle.first_bytes.specs.Bytes.{Bytes, pick}
 use Rattle.frames.specs.declared.OptionalNumber.{OptionalNumber}
 use Rattle.frames.specs.declared.Place.{Place}
@@ -15,16 +15,18 @@ use Rattle.frames.specs.declared.FrameAnswer.{FrameAnswer}
 use Rattle.frames.specs.Held.{all}
 use Rattle.frames.specs.Keys.{optional, codeIn, frameAt, headerKeys, bodyKeys}
 use Rattle.frames.specs.Codes.{required}
-use Rattle.frames.specs.Maps.{Entry, keys, distinct, find}
+use Rattle.frames.specs.Limits.{heldDepth}
+use Rattle.frames.specs.Maps.{Entry, entriesAt, keys, distinct, find}
 use Rattle.frames.specs.Cascade.{check, given}
 use Rattle.frames.specs.Reading.{refuse, accept, suited, byPlaces, byEntries}
-use Rattle.frame_tables.specs.declared.Table.{Table}
-use Rattle.frame_tables.specs.Tables.{emptyTable, laidAll, tabledOn, tabled, placeIn}
-use Rattle.frame_tables.proofs.Entries.{AllFit}
-use Rattle.frame_tables.proofs.Found.{places-found, number-found}
+use Rattle.frame_tables.specs.Tables.{Table, table, emptyTable, laidAll, tabledOn, tabled, placeIn}
+use Rattle.frame_tables.proofs.Entries.{AllFit, nil, all-fit}
+use Rattle.frame_tables.proofs.Found.{places-found, number-found, tabled-room}
 use Rattle.frame_rules.specs.declared.Needs.{Needs}
 use Rattle.frame_rules.specs.Needs.{needed}
-use Rattle.frame_reading.specs.Steps.{judged}
+use Rattle.frame_reading.specs.Steps.{entriesIn}
+use Rattle.frame_reading.specs.declared.Body.{Body}
+use Rattle.frame_reading.specs.declared.Body.the-variants.{At, Missing}
 
 impossible : {A : Type 0} → _≡_ {A = ℕ} 0 1 → A
 impossible z = absurd (omega arith)
@@ -83,19 +85,12 @@ module _ (s : Bytes) (f g : ℕ → Place) where
 
 -- ---- 6 and 7
 
-module _ (s : Bytes) (h b : Table) where
-  pub judged-6 : (eqb (h .number) 6 || eqb (b .number) 6) ≡ true → refuse 6 ≡ judged s h b
-  unfolding judged
-  judged-6 e = rw e
-
-  pub judged-7 : (eqb (h .number) 6 || eqb (b .number) 6) ≡ false → (eqb (h .number) 7 || eqb (b .number) 7) ≡ true → refuse 7 ≡ judged s h b
-  unfolding judged
-  judged-7 e q = rw (e, q)
-
-  pub judged-on : (eqb (h .number) 6 || eqb (b .number) 6) ≡ false → (eqb (h .number) 7 || eqb (b .number) 7) ≡ false
-      → byPlaces s (placeIn (h .starts) (h .lengths)) (placeIn (b .starts) (b .lengths)) ≡ judged s h b
-  unfolding judged
-  judged-on e q = rw (e, q)
+-- 6 and 7, which the tables tell, then the rest
+unfoldable judged : Bytes → Table → Table → FrameAnswer
+judged s h b =
+    pick (eqb (h .number) 6 || eqb (b .number) 6) (refuse 6)
+    (pick (eqb (h .number) 7 || eqb (b .number) 7) (refuse 7)
+    (byPlaces s (placeIn (h .starts) (h .lengths)) (placeIn (b .starts) (b .lengths))))
 
 -- the entries that a table was made of can all be held by it
 abbrev pub Holds : Bytes → Option (List Entry) → Type 0
@@ -115,10 +110,50 @@ or-true true = refl
 or-true false = refl
 
 -- the tables tell what the entries tell
-pub judged-entries : (s : Bytes) (ho bo : Option (List Entry)) → Holds s ho → Holds s bo → judged s (tabled ho) (tabled bo) ≡ byEntries s ho bo
+judged-entries : (s : Bytes) (ho bo : Option (List Entry)) → Holds s ho → Holds s bo → judged s (tabled ho) (tabled bo) ≡ byEntries s ho bo
 unfolding judged byEntries given tabledOn emptyTable
 judged-entries s none bo p q = refl
 judged-entries s (some hs) none p q = rw (or-true (eqb (laidAll hs (emptyTable 0) .number) 6))
 judged-entries s (some hs) (some bs) p q =
     by-numbers (laidAll hs (emptyTable 0) .number) (laidAll bs (emptyTable 0) .number) (distinct (keys hs)) (distinct (keys bs)) _ (number-found p) (number-found q)
     ∙ ap₂ (λ (f g : ℕ → Place). check (refuse 7) (distinct (keys hs) && distinct (keys bs)) (byPlaces s f g)) (places-found p) (places-found q)
+
+holds : (s : Bytes) (at : ℕ) → Holds s (entriesAt heldDepth s at)
+holds s at = go (entriesAt heldDepth s at) refl
+  where
+    go : (o : Option (List Entry)) → entriesAt heldDepth s at ≡ o → Holds s o
+    go none e = tt
+    go (some es) e = all-fit heldDepth s at es e
+
+body-holds : (s : Bytes) (b : Body) → Holds s (entriesIn s b)
+unfolding entriesIn
+body-holds s Missing = nil
+body-holds s (At at) = holds s at
+
+-- laid into a table of zeros
+abbrev pub fresh : Option (List Entry) → Table
+fresh o = tabledOn (table 0 (replicate 128 0) (replicate 128 0)) o
+
+pub long : {n : ℕ} {f g : List ℕ} (o : Option (List Entry)) → table n f g ≡ fresh o → (128 ≡ length f) × (128 ≡ length g)
+unfolding emptyTable
+long o p =
+    let r = tabled-room o in
+    (sym (ap (λ (t : Table). length (t .starts)) p ∙ r .starts), sym (ap (λ (t : Table). length (t .lengths)) p ∙ r .lengths))
+
+module _ (s : Bytes) (at : ℕ) (body : Body) (m n : ℕ) {f g k l : List ℕ} (p : table m f g ≡ fresh (entriesAt heldDepth s at)) (q : table n k l ≡ fresh (entriesIn s body)) where
+  told : judged s (table m f g) (table n k l) ≡ byEntries s (entriesAt heldDepth s at) (entriesIn s body)
+  unfolding emptyTable
+  told = ap₂ (judged s) p q ∙ judged-entries s _ _ (holds s at) (body-holds s body)
+
+  pub judged-6 : (eqb m 6 || eqb n 6) ≡ true → refuse 6 ≡ byEntries s (entriesAt heldDepth s at) (entriesIn s body)
+  unfolding judged
+  judged-6 e = rw e at told
+
+  pub judged-7 : (eqb m 6 || eqb n 6) ≡ false → (eqb m 7 || eqb n 7) ≡ true → refuse 7 ≡ byEntries s (entriesAt heldDepth s at) (entriesIn s body)
+  unfolding judged
+  judged-7 e h = rw (e, h) at told
+
+  pub judged-on : (eqb m 6 || eqb n 6) ≡ false → (eqb m 7 || eqb n 7) ≡ false
+      → byPlaces s (placeIn f g) (placeIn k l) ≡ byEntries s (entriesAt heldDepth s at) (entriesIn s body)
+  unfolding judged
+  judged-on e h = rw (e, h) at told

@@ -1,2 +1,2 @@
--- Two steps of the code, between the tables and the cascade.
+-- Where the body is: a step of the code.
 pub mod Steps

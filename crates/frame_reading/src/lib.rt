@@ -1,5 +1,4 @@
 // Reading a frame: the size number, then header and body, each refusal in document 01's order.
-use frame_tables::Table;
 use frames::Frame;
 use frames::FrameAnswer;
 use frames::OptionalNumber;
@@ -9,9 +8,11 @@ use scalars::Natural;
 use values::Read;
 ghost use mathlib.Core.Path.{_≡_};
 ghost use Rattle.frames.specs.Keys.{emptyFrame};
-ghost use Rattle.frames.specs.Reading.{refuse, byPlaces, inFrame, sizeOf, frameRead};
-ghost use Rattle.frame_tables.specs.Tables.{placeIn};
-ghost use Rattle.frame_reading.specs.Steps.{judged, bodyAt};
+ghost use Rattle.frames.specs.Limits.{heldDepth};
+ghost use Rattle.frames.specs.Maps.{entriesAt};
+ghost use Rattle.frames.specs.Reading.{refuse, byPlaces, byEntries, inFrame, sizeOf, frameRead};
+ghost use Rattle.frame_tables.specs.Tables.{table, tabledOn, placeIn};
+ghost use Rattle.frame_reading.specs.Steps.{bodyAt, entriesIn};
 
 // Whether a body follows the header, and where.
 enum Body {
@@ -82,12 +83,12 @@ fn refused(number: u32) -> FrameAnswer
 }
 
 // 8 to 10, by where each key's value stands in the header and in the body.
-fn by_places<'a>(
+fn by_places(
     s: &[u8],
-    header_starts: &'a [usize],
-    header_lengths: &'a [usize],
-    starts: &'a [usize],
-    lengths: &'a [usize],
+    header_starts: &[usize],
+    header_lengths: &[usize],
+    starts: &[usize],
+    lengths: &[usize],
 ) -> FrameAnswer
     ensures { λ r. ⌜ r ≡ byPlaces (now (s .entry)) (placeIn (now («header_starts» .entry)) (now («header_lengths» .entry))) (placeIn (now (starts .entry)) (now (lengths .entry))) ⌝ }
 {
@@ -124,25 +125,6 @@ fn by_places<'a>(
     }
 }
 
-// 6 and 7, over the header and then the body.
-fn judge(s: &[u8], header: Table, body: Table) -> FrameAnswer
-    ensures { λ r. ⌜ r ≡ judged (now (s .entry)) header body ⌝ }
-{
-    if (header.number == 6) | (body.number == 6) {
-        return refused(6);
-    }
-    if (header.number == 7) | (body.number == 7) {
-        return refused(7);
-    }
-    by_places(
-        s,
-        &header.starts,
-        &header.lengths,
-        &body.starts,
-        &body.lengths,
-    )
-}
-
 fn body_at(s: &[u8], at: usize) -> Body
     ensures { λ r. ⌜ r ≡ bodyAt (now (s .entry)) at ⌝ }
 {
@@ -153,6 +135,36 @@ fn body_at(s: &[u8], at: usize) -> Body
     }
 }
 
+// `table_at` of the body; a missing one lays nothing.
+fn body_table(s: &[u8], body: Body, starts: &mut [usize; 128], lengths: &mut [usize; 128]) -> u32
+    ensures { λ r. ⌜ table r (now (starts .exit)) (now (lengths .exit))
+        ≡ tabledOn (table 0 (now (starts .entry)) (now (lengths .entry))) (entriesIn (now (s .entry)) body) ⌝ }
+{
+    let Body::At(from) = body else {
+        return 0;
+    };
+    frame_tables::table_at(s, from, starts, lengths)
+}
+
+// 6 to 10: 6 and 7 over the header and then the body. The tables are made here alone, and lent.
+fn judge(s: &[u8], at: usize, body: Body) -> FrameAnswer
+    ensures { λ r. ⌜ r ≡ byEntries (now (s .entry)) (entriesAt heldDepth (now (s .entry)) at) (entriesIn (now (s .entry)) body) ⌝ }
+{
+    let mut header_starts = [0usize; 128];
+    let mut header_lengths = [0usize; 128];
+    let mut starts = [0usize; 128];
+    let mut lengths = [0usize; 128];
+    let header_number = frame_tables::table_at(s, at, &mut header_starts, &mut header_lengths);
+    let number = body_table(s, body, &mut starts, &mut lengths);
+    if (header_number == 6) | (number == 6) {
+        return refused(6);
+    }
+    if (header_number == 7) | (number == 7) {
+        return refused(7);
+    }
+    by_places(s, &header_starts, &header_lengths, &starts, &lengths)
+}
+
 // 4 to 10: `s` is one frame and nothing more, its header at `at`.
 pub fn read_contents(s: &[u8], at: usize) -> FrameAnswer
     ensures { λ r. ⌜ r ≡ inFrame (now (s .entry)) at ⌝ }
@@ -161,11 +173,7 @@ pub fn read_contents(s: &[u8], at: usize) -> FrameAnswer
         return refused(4);
     };
     let Body::At(from) = body_at(s, end) else {
-        return judge(
-            s,
-            frame_tables::table_at(s, at),
-            frame_tables::empty_table(0),
-        );
+        return judge(s, at, Body::Missing);
     };
     let Read::Whole(last) = values::read_value(s, from, 16) else {
         return refused(4);
@@ -173,11 +181,7 @@ pub fn read_contents(s: &[u8], at: usize) -> FrameAnswer
     if last < s.len() {
         return refused(5);
     }
-    judge(
-        s,
-        frame_tables::table_at(s, at),
-        frame_tables::table_at(s, from),
-    )
+    judge(s, at, Body::At(from))
 }
 
 // The first frame of `s`; what follows it is not judged.

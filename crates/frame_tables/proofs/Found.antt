@@ -1,19 +1,19 @@
 -- The table of entries tells what the entries tell: where each key's value stands, and whether a key stands twice. Assumes nothing.
-use mathlib.Core.Path.{_≡_, refl, sym, subst, ap, ap₂, _∙_, fun-ext}
+use mathlib.Core.Path.{_≡_, refl, sym, ap, ap₂, _∙_, fun-ext}
 use mathlib.Core.List.{List, [], _∷_}
 use mathlib.Core.Bool.{Bool, true, false, not, _&&_, _||_}
-use Prim.Native.Nat.{ℕ, zero, suc, _<_, _≤_}
+use mathlib.Core.Option.{Option, none, some}
+use Prim.Native.Nat.{ℕ, zero, suc}
 use native.Mathlib.Omega.{arith}
 use borrow.Author.Tests.{eq-eqb, ne-eqb, eqb-true, eqb-false}
 use lib.Dec.{eqb}
-use lib.ListN.{length, getD, set, replicate, length-set}
+use lib.ListN.{length, getD, replicate, length-set}
 use lib.Seq.{getD-set-same, getD-set-other}
 use Rattle.first_bytes.specs.Bytes.{Bytes, pick}
 use Rattle.frames.specs.declared.Place.{Place}
 use Rattle.frames.specs.Keys.{nowhere}
 use Rattle.frames.specs.Maps.{Entry, keys, has, distinct, placed, find}
-use Rattle.frame_tables.specs.Tables.{emptyTable, laid, laidAll, placeIn}
-use Rattle.frame_tables.specs.declared.Table.{Table}
+use Rattle.frame_tables.specs.Tables.{Table, emptyTable, laid, laidAll, tabledOn, tabled, placeIn}
 use Rattle.frame_tables.proofs.Entries.{Fits, AllFit, nil, more}
 use Rattle.frame_tables.proofs.Tables.{laid-new, laid-twice}
 
@@ -21,23 +21,23 @@ use Rattle.frame_tables.proofs.Tables.{laid-new, laid-twice}
 abbrev free : Table → ℕ → Bool
 free t k = eqb (getD (t .lengths) k 0) 0
 
-record Room (t : Table) : Type 0 where
-  starts : length (t .starts) ≡ 128
-  lengths : length (t .lengths) ≡ 128
+pub record Room (t : Table) : Type 0 where
+  pub starts : length (t .starts) ≡ 128
+  pub lengths : length (t .lengths) ≡ 128
 
 abbrev pub placeOf : Table → ℕ → Place
 placeOf t k = placeIn (t .starts) (t .lengths) k
 
 -- ---- one entry more
 
-module _ {s : Bytes} (e : Entry) (t : Table) (f : Fits s e) (r : Room t) where
-  laid-room : Room (laid e t)
-  laid-room = go (free t (e .key)) refl
-    where
-      go : (b : Bool) → free t (e .key) ≡ b → Room (laid e t)
-      go true q = rw (laid-new e t (eqb-true _ 0 q)) (record { starts = rw length-set (r .starts); lengths = rw length-set (r .lengths) })
-      go false q = rw (laid-twice e t (eqb-false _ 0 q)) (record { starts = r .starts; lengths = r .lengths })
+laid-room : (e : Entry) (t : Table) → Room t → Room (laid e t)
+laid-room e t r = go (free t (e .key)) refl
+  where
+    go : (b : Bool) → free t (e .key) ≡ b → Room (laid e t)
+    go true q = rw (laid-new e t (eqb-true _ 0 q)) (record { starts = rw length-set (r .starts); lengths = rw length-set (r .lengths) })
+    go false q = rw (laid-twice e t (eqb-false _ 0 q)) (record { starts = r .starts; lengths = r .lengths })
 
+module _ {s : Bytes} (e : Entry) (t : Table) (f : Fits s e) (r : Room t) where
   laid-number : laid e t .number ≡ pick (free t (e .key)) (t .number) 7
   laid-number = go (free t (e .key)) refl
     where
@@ -96,7 +96,7 @@ all-places nil t r k = go (free t k) refl
     go false q = refl
 all-places (more {e = e} {es = es} f fs) t r k =
     let l = laid-key e t f r k in
-    all-places fs (laid e t) (laid-room e t f r) k
+    all-places fs (laid e t) (laid-room e t r) k
     ∙ ap₂ (λ (b : Bool) (p : Place). pick b (find es k) p) (l .0) (l .1)
     ∙ choice (free t k) (eqb k (e .key)) _ _ _
 
@@ -139,7 +139,7 @@ all-number : {s : Bytes} {es : List Entry} → AllFit s es → (t : Table) → R
 unfolding laidAll distinct keys allFree
 all-number nil t r = refl
 all-number (more {e = e} {es = es} f fs) t r =
-    all-number fs (laid e t) (laid-room e t f r)
+    all-number fs (laid e t) (laid-room e t r)
     ∙ ap₂ (λ (b : Bool) (n : ℕ). pick (distinct (keys es) && b) n 7) (still-free e t f r (keys es)) (laid-number e t f r)
     ∙ algebra (distinct (keys es)) (allFree (keys es) t) (has (e .key) (keys es)) (free t (e .key)) (t .number)
 
@@ -154,9 +154,20 @@ empty-free : (k : ℕ) → free (emptyTable 0) k ≡ true
 unfolding emptyTable
 empty-free k = rw (empty-slot 128 k)
 
-empty-room : Room (emptyTable 0)
+empty-room : (n : ℕ) → Room (emptyTable n)
 unfolding emptyTable
-empty-room = record { starts = refl; lengths = refl }
+empty-room n = record { starts = refl; lengths = refl }
+
+all-room : (es : List Entry) (t : Table) → Room t → Room (laidAll es t)
+unfolding laidAll
+all-room [] t r = r
+all-room (e ∷ es) t r = all-room es (laid e t) (laid-room e t r)
+
+-- a table has its 128 places, whatever was laid
+pub tabled-room : (o : Option (List Entry)) → Room (tabled o)
+unfolding tabledOn
+tabled-room none = empty-room 6
+tabled-room (some es) = all-room es (emptyTable 0) (empty-room 0)
 
 all-free : (ks : List ℕ) → allFree ks (emptyTable 0) ≡ true
 unfolding allFree
@@ -169,10 +180,10 @@ and-true false = refl
 
 -- each key's place
 pub places-found : {s : Bytes} {es : List Entry} → AllFit s es → placeOf (laidAll es (emptyTable 0)) ≡ find es
-places-found f = fun-ext (λ k. all-places f (emptyTable 0) empty-room k ∙ rw (empty-free k))
+places-found f = fun-ext (λ k. all-places f (emptyTable 0) (empty-room 0) k ∙ rw (empty-free k))
 
 -- 7 exactly where a key stands twice
 pub number-found : {s : Bytes} {es : List Entry} → AllFit s es → laidAll es (emptyTable 0) .number ≡ pick (distinct (keys es)) 0 7
 number-found {es = es} f =
-    all-number f (emptyTable 0) empty-room
+    all-number f (emptyTable 0) (empty-room 0)
     ∙ ap₂ (λ (b : Bool) (n : ℕ). pick b n 7) (ap (λ (b : Bool). distinct (keys es) && b) (all-free (keys es)) ∙ and-true (distinct (keys es))) (unfold emptyTable in refl)

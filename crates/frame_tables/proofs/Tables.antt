@@ -1,16 +1,15 @@
 -- The table that the loop fills, an entry at a time. Assumes nothing.
-use mathlib.Core.Path.{_≡_, refl, sym, subst, ap, _∙_}
+use mathlib.Core.Path.{_≡_, refl, sym, _∙_}
 use mathlib.Core.List.{List, [], _∷_}
 use mathlib.Core.Option.{Option, none, some}
-use Prim.Native.Nat.{ℕ, zero, suc, _+_, _≤_}
+use Prim.Native.Nat.{ℕ, suc, _+_}
 use borrow.Author.Tests.{eq-eqb, ne-eqb}
 use lib.ListN.{length, getD, set}
 use Rattle.first_bytes.specs.Bytes.{Bytes}
 use Rattle.frames.specs.Keys.{nowhere}
 use Rattle.frames.specs.Maps.{Entry, entryAt, entries, placed}
 use Rattle.frames.specs.Cascade.{given}
-use Rattle.frame_tables.specs.Tables.{emptyTable, laid, laidAll, tabledOn, placeIn}
-use Rattle.frame_tables.specs.declared.Table.{Table}
+use Rattle.frame_tables.specs.Tables.{Table, table, emptyTable, laid, laidAll, tabledOn, placeIn}
 
 module _ (d : ℕ) (s : Bytes) (n at : ℕ) (t : Table) where
   pub table-none : entryAt d s at ≡ none → tabledOn t (entries d s (suc n) at) ≡ emptyTable 6
@@ -26,16 +25,16 @@ module _ (d : ℕ) (s : Bytes) (n at : ℕ) (t : Table) where
       go (some es) = refl
 
 pub laid-new : (e : Entry) (t : Table) → getD (t .lengths) (e .key) 0 ≡ 0
-    → laid e t ≡ record { number = t .number; starts = set (t .starts) (e .key) (e .start); lengths = set (t .lengths) (e .key) (e .length) }
+    → laid e t ≡ table (t .number) (set (t .starts) (e .key) (e .start)) (set (t .lengths) (e .key) (e .length))
 unfolding laid
 laid-new e t h = rw (eq-eqb _ 0 h)
 
-pub laid-twice : (e : Entry) (t : Table) → (getD (t .lengths) (e .key) 0 ≡ 0 → ⊥) → laid e t ≡ record { number = 7; starts = t .starts; lengths = t .lengths }
+pub laid-twice : (e : Entry) (t : Table) → (getD (t .lengths) (e .key) 0 ≡ 0 → ⊥) → laid e t ≡ table 7 (t .starts) (t .lengths)
 unfolding laid
 laid-twice e t h = rw (ne-eqb _ 0 h)
 
 pub table-eq : {n n' : ℕ} {a a' b b' : List ℕ} → a ≡ a' → b ≡ b' → n ≡ n'
-    → _≡_ {A = Table} (record { number = n; starts = a; lengths = b }) (record { number = n'; starts = a'; lengths = b' })
+    → table n a b ≡ table n' a' b'
 table-eq p q r = rw (p, q, r)
 
 -- ---- a look-up

@@ -9,25 +9,7 @@ ghost use lib.ListN.{getD};
 ghost use Rattle.frames.specs.Keys.{nowhere};
 ghost use Rattle.frames.specs.Limits.{heldDepth};
 ghost use Rattle.frames.specs.Maps.{entryAt, entries, entriesAt};
-ghost use Rattle.frame_tables.specs.Tables.{emptyTable, stepOf, tabled, placeIn};
-
-// Where the value of each key starts, and its length: 0 where the key is absent. The number is 6
-// where the value is no map or a key no number below 128, 7 where a key stands twice, else 0.
-pub struct Table {
-    pub number: u32,
-    pub starts: [usize; 128],
-    pub lengths: [usize; 128],
-}
-
-pub fn empty_table(number: u32) -> Table
-    ensures { λ r. ⌜ r ≡ emptyTable number ⌝ }
-{
-    Table {
-        number,
-        starts: [0usize; 128],
-        lengths: [0usize; 128],
-    }
-}
+ghost use Rattle.frame_tables.specs.Tables.{table, stepOf, emptyTable, tabledOn, placeIn};
 
 // One key of a map with its value's start and length, or that it is no key.
 enum Step {
@@ -51,18 +33,32 @@ fn entry_at(s: &[u8], at: usize) -> Step
     Step::Entry(key as usize, start, end - start)
 }
 
-// `count` entries from `from` on. It goes on after a key that stood before, since 6 beats 7.
-fn table_of(s: &[u8], count: usize, from: usize) -> Table
-    ensures { λ r. ⌜ r ≡ tabled (entries heldDepth (now (s .entry)) count from) ⌝ }
+// 6, and the table emptied: what was laid before says nothing then.
+fn no_table(starts: &mut [usize; 128], lengths: &mut [usize; 128]) -> u32
+    ensures { λ r. ⌜ table r (now (starts .exit)) (now (lengths .exit)) ≡ emptyTable 6 ⌝ }
 {
-    let mut starts = [0usize; 128];
-    let mut lengths = [0usize; 128];
+    *starts = [0usize; 128];
+    *lengths = [0usize; 128];
+    6
+}
+
+// `count` entries from `from` on. It goes on after a key that stood before, since 6 beats 7.
+fn table_of(
+    s: &[u8],
+    count: usize,
+    from: usize,
+    starts: &mut [usize; 128],
+    lengths: &mut [usize; 128],
+) -> u32
+    ensures { λ r. ⌜ table r (now (starts .exit)) (now (lengths .exit))
+        ≡ tabledOn (table 0 (now (starts .entry)) (now (lengths .entry))) (entries heldDepth (now (s .entry)) count from) ⌝ }
+{
     let mut number: u32 = 0;
     let mut at = from;
     let mut left = count;
     while 0 < left {
         let Step::Entry(key, start, length) = entry_at(s, at) else {
-            return empty_table(6);
+            return no_table(starts, lengths);
         };
         if lengths[key] == 0 {
             starts[key] = start;
@@ -73,20 +69,19 @@ fn table_of(s: &[u8], count: usize, from: usize) -> Table
         at = start + length;
         left -= 1;
     }
-    Table {
-        number,
-        starts,
-        lengths,
-    }
+    number
 }
 
-// The table of the value at `at`.
-pub fn table_at(s: &[u8], at: usize) -> Table
-    ensures { λ r. ⌜ r ≡ tabled (entriesAt heldDepth (now (s .entry)) at) ⌝ }
+// The value at `at` laid into a table, lent all 0: where each key's value starts, and its length,
+// which stays 0 where the key is absent. The answer is 6 where the value is no map or a key no
+// number below 128, 7 where a key stands twice, else 0.
+pub fn table_at(s: &[u8], at: usize, starts: &mut [usize; 128], lengths: &mut [usize; 128]) -> u32
+    ensures { λ r. ⌜ table r (now (starts .exit)) (now (lengths .exit))
+        ≡ tabledOn (table 0 (now (starts .entry)) (now (lengths .entry))) (entriesAt heldDepth (now (s .entry)) at) ⌝ }
 {
     match scalars::header_at(s, at, Opening::Map) {
-        Header::Is(count, from) => table_of(s, count, from),
-        Header::Other => empty_table(6),
+        Header::Is(count, from) => table_of(s, count, from, starts, lengths),
+        Header::Other => no_table(starts, lengths),
     }
 }
 

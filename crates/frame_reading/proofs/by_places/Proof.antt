@@ -1,16 +1,10 @@
 -- The code, its required keys, the types, and what is there. Assumes nothing.
-use Prim.Native.Nat.{ℕ}
-use mathlib.Core.Bool.{Bool, true, false, _&&_}
-use mathlib.Core.Path.{_≡_, sym, ap, _∙_}
-use mathlib.Core.Option.{some}
-use native.Mathlib.Omega.{arith}
+use mathlib.Core.Path.{sym, _∙_}
 use borrow.Author.Needs.{needs}
 use borrow.Author.Tests.{not-true, not-false}
 use lib.Seq.{length-take-le}
-use Rattle.frames.specs.declared.Place.{Place}
-use Rattle.frames.specs.Keys.{codeIn, headerKeys, bodyKeys}
+use Rattle.frames.specs.Keys.{codeIn}
 use Rattle.frames.specs.Codes.{required}
-use Rattle.frames.specs.Reading.{suited}
 use Rattle.frame_tables.specs.Tables.{placeIn}
 use Rattle.frame_reading.proofs.Places.{code-absent, code-there, needs-none, needs-some, both-are, no-code, no-such-code, unsuited, not-all-there, accepted}
 use Rattle.frame_reading.proofs.by_places.Statement.{statement}

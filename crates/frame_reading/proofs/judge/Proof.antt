@@ -1,36 +1,74 @@
 -- What the tables say, then the rest. Assumes nothing.
 use mathlib.Core.Path.{_∙_}
 use borrow.Author.Needs.{needs}
-use Rattle.frame_reading.proofs.Places.{judged-6, judged-7, judged-on}
+use Rattle.frame_reading.proofs.Places.{long, judged-6, judged-7, judged-on}
 use Rattle.frame_reading.proofs.judge.Statement.{statement}
 use Rattle.frame_reading.proofs.judge.Tie as tie
+
+table-at-requires : tie.Need-table-at-requires
+table-at-requires c κs = search needs
+
+body-table-requires : tie.Need-body-table-requires
+body-table-requires c κs = search needs
 
 refused-requires : tie.Need-refused-requires
 refused-requires c κs = search needs
 
 returns : tie.Need-returns
 returns c =
-    let a = c .before .before .before .args in
-    c .refused .ensures ∙ judged-6 (a .s .now) (a .t2) (a .t3) (c .before .if1 .taken)
+    let b = c .before .before in
+    let t = b .before .before .before in
+    let a = t .before .before .before .before .args in
+    c .refused .ensures ∙ judged-6 (a .s .now) (a .at) (a .body) _ _ (t .table-at .ensures) (b .body-table .ensures) (c .before .if1 .taken)
 
 refused-requires-2 : tie.Need-refused-requires-2
 refused-requires-2 c κs = search needs
 
 returns-2 : tie.Need-returns-2
 returns-2 c =
-    let a = c .before .before .before .before .args in
-    c .refused2 .ensures ∙ judged-7 (a .s .now) (a .t2) (a .t3) (c .before .before .if1 .left) (c .before .if2 .taken)
+    let b = c .before .before .before in
+    let t = b .before .before .before in
+    let a = t .before .before .before .before .args in
+    c .refused2 .ensures
+    ∙ judged-7 (a .s .now) (a .at) (a .body) _ _ (t .table-at .ensures) (b .body-table .ensures) (c .before .before .if1 .left) (c .before .if2 .taken)
+
+slice-aggregate-by-places : tie.Need-slice-aggregate-by-places
+slice-aggregate-by-places c = long _ (c .before .before .before .before .before .before .table-at .ensures) .0
+
+slice-aggregate-by-places-2 : tie.Need-slice-aggregate-by-places-2
+slice-aggregate-by-places-2 c = long _ (c .before .before .before .before .before .before .before .table-at .ensures) .1
+
+slice-aggregate-by-places-3 : tie.Need-slice-aggregate-by-places-3
+slice-aggregate-by-places-3 c = long _ (c .before .before .before .before .before .body-table .ensures) .0
+
+slice-aggregate-by-places-4 : tie.Need-slice-aggregate-by-places-4
+slice-aggregate-by-places-4 c = long _ (c .before .before .before .before .before .before .body-table .ensures) .1
 
 by-places-requires : tie.Need-by-places-requires
 by-places-requires c κs = search needs
 
 returns-3 : tie.Need-returns-3
 returns-3 c =
-    let i = c .before .before .before .before .before .before .before .before .before .before .before in
-    let a = i .before .before .before .args in
-    c .by-places .ensures ∙ judged-on (a .s .now) (a .t2) (a .t3) (i .before .if1 .left) (i .if2 .left)
+    let i = c .before .before .before .before .before in
+    let b = i .before .before in
+    let t = b .before .before .before in
+    let a = t .before .before .before .before .args in
+    c .by-places .ensures
+    ∙ judged-on (a .s .now) (a .at) (a .body) _ _ (t .table-at .ensures) (b .body-table .ensures) (i .before .if1 .left) (i .if2 .left)
 
 pub judge-spec : {M : Type 1} → statement M
 judge-spec =
     tie.close
-    (tie.spec refused-requires returns refused-requires-2 returns-2 by-places-requires returns-3)
+    (tie.spec
+    table-at-requires
+    body-table-requires
+    refused-requires
+    returns
+    refused-requires-2
+    returns-2
+    slice-aggregate-by-places
+    slice-aggregate-by-places-2
+    slice-aggregate-by-places-3
+    slice-aggregate-by-places-4
+    by-places-requires
+    returns-3)

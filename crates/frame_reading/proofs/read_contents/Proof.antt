@@ -1,14 +1,12 @@
 -- Each way through header and body. Assumes nothing.
 use Prim.Native.Nat.{ℕ}
-use mathlib.Core.Path.{_≡_, sym, ap, ap₂, _∙_}
-use mathlib.Core.List.{[]}
-use mathlib.Core.Option.{some}
+use mathlib.Core.Path.{sym, ap, _∙_}
 use borrow.Author.Needs.{needs}
-use Rattle.values.specs.Value.{shift, value}
-use Rattle.frames.specs.Limits.{maxDepth, heldDepth}
+use Rattle.frames.specs.Limits.{heldDepth}
 use Rattle.frames.specs.Maps.{entriesAt}
-use Rattle.frame_tables.specs.Tables.{laidAll, tabledOn, tabled}
-use Rattle.frame_reading.specs.Steps.{judged}
+use Rattle.frames.specs.Reading.{byEntries}
+use Rattle.frame_reading.specs.Steps.{entriesIn}
+use Rattle.frame_reading.specs.declared.Body.the-variants.{At}
 use Rattle.frame_reading.proofs.Contents.{body-there, body-missing, moved, no-header, no-body, bad-body, bytes-remain, all-read}
 use Rattle.frame_reading.proofs.read_contents.Statement.{statement}
 use Rattle.frame_reading.proofs.read_contents.Tie as tie
@@ -40,26 +38,18 @@ enum-known-from c = search needs
 enum-told-2 : tie.Need-enum-told-2
 enum-told-2 c = search needs
 
-table-at-requires : tie.Need-table-at-requires
-table-at-requires c κs = search needs
-
-empty-table-requires : tie.Need-empty-table-requires
-empty-table-requires c κs = search needs
-
 judge-requires : tie.Need-judge-requires
 judge-requires c κs = search needs
 
 returns-2 : tie.Need-returns-2
-unfolding tabledOn laidAll
 returns-2 c =
-    let t = c .before .before in
-    let b = t .before .before .before in
+    let o = c .before in
+    let b = o .before .before in
     let e = b .before .before in
     let v = e .before .before in
     let a = v .before .before .args in
     c .judge .ensures
-    ∙ ap₂ (judged (a .s .now)) (t .table-at .ensures) (c .before .empty-table .ensures)
-    ∙ no-body (a .s .now) (a .at) _ (sym (e .end .given .1) ∙ v .read-value .ensures) (body-missing (a .s .now) _ (sym (t .before .enum-told2 .given .1) ∙ b .body-at .ensures))
+    ∙ no-body (a .s .now) (a .at) _ (sym (e .end .given .1) ∙ v .read-value .ensures) (body-missing (a .s .now) _ (sym (o .enum-told2 .given .1) ∙ b .body-at .ensures))
 
 read-value-requires-2 : tie.Need-read-value-requires-2
 read-value-requires-2 c κs = search needs
@@ -102,18 +92,12 @@ returns-4 c =
     ∙ bytes-remain (a .s .now) (a .at) _ (sym (e .end .given .1) ∙ v .read-value .ensures) (d .0) _ (moved _ (a .s .now) _ _ (d .1) (sym (l .last .given .1) ∙ w .read-value2 .ensures))
     (c .before .if1 .taken)
 
-table-at-requires-2 : tie.Need-table-at-requires-2
-table-at-requires-2 c κs = search needs
-
-table-at-requires-3 : tie.Need-table-at-requires-3
-table-at-requires-3 c κs = search needs
-
 judge-requires-2 : tie.Need-judge-requires-2
 judge-requires-2 c κs = search needs
 
 returns-5 : tie.Need-returns-5
 returns-5 c =
-    let i = c .before .before .before in
+    let i = c .before in
     let l = i .before .before in
     let w = l .before .before in
     let f = w .before .before in
@@ -123,7 +107,7 @@ returns-5 c =
     let a = v .before .before .args in
     let d = body-there (a .s .now) _ _ (sym (f .from .given .1) ∙ b .body-at .ensures) in
     c .judge2 .ensures
-    ∙ ap₂ (judged (a .s .now)) (c .before .before .table-at2 .ensures) (c .before .table-at3 .ensures ∙ ap (λ (x : ℕ). tabled (entriesAt heldDepth (a .s .now) x)) (d .1))
+    ∙ ap (λ (x : ℕ). byEntries (a .s .now) (entriesAt heldDepth (a .s .now) (a .at)) (entriesIn (a .s .now) (At x))) (d .1)
     ∙ all-read (a .s .now) (a .at) _ (sym (e .end .given .1) ∙ v .read-value .ensures) (d .0) _ (moved _ (a .s .now) _ _ (d .1) (sym (l .last .given .1) ∙ w .read-value2 .ensures))
     (i .if1 .left)
 
@@ -139,8 +123,6 @@ read-contents-spec =
     body-at-requires
     enum-known-from
     enum-told-2
-    table-at-requires
-    empty-table-requires
     judge-requires
     returns-2
     read-value-requires-2
@@ -150,7 +132,5 @@ read-contents-spec =
     returns-3
     refused-requires-3
     returns-4
-    table-at-requires-2
-    table-at-requires-3
     judge-requires-2
     returns-5)

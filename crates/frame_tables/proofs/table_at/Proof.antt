@@ -2,7 +2,7 @@
 use mathlib.Core.Path.{sym, ap, _∙_}
 use borrow.Author.Needs.{needs}
 use Rattle.frames.specs.Limits.{heldDepth}
-use Rattle.frame_tables.specs.Tables.{tabledOn, tabled}
+use Rattle.frame_tables.specs.Tables.{table, tabledOn}
 use Rattle.frame_tables.proofs.Entries.{no-map, a-map}
 use Rattle.frame_tables.proofs.table_at.Statement.{statement}
 use Rattle.frame_tables.proofs.table_at.Tie as tie
@@ -19,22 +19,25 @@ table-of-requires c κs = search needs
 enum-told : tie.Need-enum-told
 enum-told c = search needs
 
-empty-table-requires : tie.Need-empty-table-requires
-empty-table-requires c κs = search needs
+no-table-requires : tie.Need-no-table-requires
+no-table-requires c κs = search needs
 
 returns : tie.Need-returns
 returns c =
-    let k = c .before .before in
+    let k = c .before .before .before .before in
     let b = k .before .before in
     let a = b .before .before .args in
-    c .table-of .ensures ∙ sym (ap tabled (a-map heldDepth (a .s .now) (a .at) _ _ (sym (k .count .given .1) ∙ b .header-at .ensures)))
+    c .table-of .ensures
+    ∙ sym (ap (tabledOn (table 0 (a .starts .now) (a .lengths .now))) (a-map heldDepth (a .s .now) (a .at) _ _ (sym (k .count .given .1) ∙ b .header-at .ensures)))
 
 returns-2 : tie.Need-returns-2
 unfolding tabledOn
 returns-2 c =
-    let b = c .before .before .before in
+    let o = c .before .before .before in
+    let b = o .before .before in
     let a = b .before .before .args in
-    c .empty-table .ensures ∙ sym (ap tabled (no-map heldDepth (a .s .now) (a .at) (sym (c .before .enum-told .given .1) ∙ b .header-at .ensures)))
+    c .no-table .ensures
+    ∙ sym (ap (tabledOn (table 0 (a .starts .now) (a .lengths .now))) (no-map heldDepth (a .s .now) (a .at) (sym (o .enum-told .given .1) ∙ b .header-at .ensures)))
 
 pub table-at-spec : {M : Type 1} → statement M
 table-at-spec =
@@ -44,6 +47,6 @@ table-at-spec =
     enum-known-count
     table-of-requires
     enum-told
-    empty-table-requires
+    no-table-requires
     returns
     returns-2)
