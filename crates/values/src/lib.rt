@@ -212,10 +212,10 @@ fn opened(s: &[u8], at: usize, depth: usize) -> Opening
     if 0xa0 <= b {
         return opened_long(s, at, b, depth);
     }
-    if depth == 0 {
-        return Opening::Fails(at);
+    if 0 < depth {
+        return Opening::Holds(short_count(b), at + 1);
     }
-    Opening::Holds(short_count(b), at + 1)
+    Opening::Fails(at)
 }
 
 // The n values from `at` on, each of depth at most `most`. It goes down by a call, but to the last

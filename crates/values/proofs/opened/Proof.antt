@@ -45,21 +45,22 @@ from-80 c =
     let k : c .before .before .scalar-length .result ≡ 0 = omega arith in
     Opens.from-80 _ (c .if4 .left) (sym (c .before .before .scalar-length .ensures) ∙ k)
 
-returns-5 : tie.Need-returns-5
-returns-5 c =
-    let a = c .before .before .before .before .before .before .before .args in
-    rw (c .if5 .taken) (Opens.short-deep (a .s .now) (a .at) (omega arith) (from-80 (c .before)) (c .before .if4 .left))
-
 short-count-requires : tie.Need-short-count-requires
 short-count-requires c κs = (from-80 (c .before), c .before .if4 .left)
 
-add-t14 : tie.Need-add-t14
-add-t14 c = search needs
+add-t15 : tie.Need-add-t15
+add-t15 c = search needs
+
+returns-5 : tie.Need-returns-5
+returns-5 c =
+    let a = c .before .before .before .before .before .before .before .before .args in
+    (omega arith, (omega arith, Opens.short-holds (a .s .now) (a .at) (omega arith) (from-80 (c .before .before)) (c .before .before .if4 .left) (a .depth) _ (omega arith) (c .short-count .ensures .0)))
 
 returns-6 : tie.Need-returns-6
 returns-6 c =
-    let a = c .before .before .before .before .before .before .before .before .args in
-    (omega arith, (omega arith, Opens.short-holds (a .s .now) (a .at) (omega arith) (from-80 (c .before .before)) (c .before .before .if4 .left) (a .depth) _ (omega arith) (c .short-count .ensures .0)))
+    let a = c .before .before .before .before .before .before .before .args in
+    let e : a .depth ≡ 0 = omega arith in
+    rw e (Opens.short-deep (a .s .now) (a .at) (omega arith) (from-80 (c .before)) (c .before .if4 .left))
 
 pub opened-spec : {M : Type 1} → statement M
 opened-spec =
@@ -74,7 +75,7 @@ opened-spec =
     returns-3
     opened-long-requires
     returns-4
-    returns-5
     short-count-requires
-    add-t14
+    add-t15
+    returns-5
     returns-6)
