@@ -2,7 +2,7 @@
 use mathlib.Core.Path.{_≡_, refl, sym, ap, _∙_}
 use mathlib.Core.List.{List, [], _∷_, _++_}
 use Prim.Native.Nat.{ℕ, zero, suc, _+_, _*_, _^_, _<_, _≤_}
-use native.Mathlib.Nat.{mul-assoc}
+use native.Mathlib.Nat.{add-zero, mul-assoc}
 use native.Mathlib.Omega.{arith}
 use native.Mathlib.Numerals.{add-one}
 use lib.ListN.{length, length-append, length-drop, getD, take, drop}
@@ -37,3 +37,12 @@ grow {n} {b} i h k =
 
 pub small : (n i k : ℕ) → i ≤ k → n < 2 ^ (8 * i) → n < 2 ^ (8 * k)
 small n i k h l = let m : 2 ^ (8 * i) ≤ 2 ^ (8 * k) = pow-mono (omega arith) in omega arith
+
+-- a number of w bytes, from its first byte on, one byte after the other
+pub number-first : (s : Bytes) (at w n : ℕ) → at < length s → w ≡ 1 → n ≡ 0 * 256 + getD s at 0 → n ≡ number (take w (drop at s))
+unfolding number
+number-first s at w n h e q = rw e (q ∙ sym (rw add-zero at (number-next s at 0 (omega arith))))
+
+pub number-step : (s : Bytes) (at i w n m : ℕ) → at + i < length s → w ≡ i + 1 → n ≡ number (take i (drop at s)) → m ≡ n * 256 + getD s (at + i) 0
+    → m ≡ number (take w (drop at s))
+number-step s at i w n m h e p q = rw (e, number-next s at i h, ← p) q

@@ -1,26 +1,21 @@
 -- What each step of reading says of the definition, one law for each way that the code takes. Assumes nothing.
 use mathlib.Core.Path.{_≡_, refl, sym, subst, ap, _∙_}
-use mathlib.Core.List.{List, [], _∷_}
 use mathlib.Core.Bool.{Bool, true, false, _&&_}
-use Prim.Native.Nat.{ℕ, zero, suc, _+_, _-_, _*_, _^_, _<_, _≤_}
-use native.Mathlib.Nat.{add-assoc, add-zero, mul-le-mul-left}
+use Prim.Native.Nat.{ℕ, zero, suc, _+_, _-_, _*_, _<_, _≤_}
+use native.Mathlib.Nat.{add-assoc, add-zero}
 use native.Mathlib.Numerals.{add-one}
 use native.Mathlib.Omega.{arith}
 use borrow.Author.Tests.{leb-true, leb-false, le-leb, lt-leb}
-use lib.Dec.{T, leb, leb→le}
+use lib.Dec.{leb}
 use lib.ListN.{length, take, drop, getD, length-drop, drop-of-length-le}
 use lib.Seq.{drop-cons, drop-drop}
 use Rattle.first_bytes.specs.Bytes.{Bytes, pick}
 use Rattle.first_bytes.specs.FirstByte.{formOf}
 use Rattle.first_bytes.specs.declared.Kind.{Kind}
-use Rattle.first_bytes.specs.declared.Kind.the-variants.{Unsigned, Signed}
 use Rattle.first_bytes.specs.declared.Form.{Form}
-use Rattle.first_bytes.specs.declared.Form.the-variants.{Unused, Scalar, Array, Map}
-use Rattle.first_bytes.proofs.Range.{both, both-left, both-right, all-at}
-use Rattle.first_bytes.proofs.Forms.{agree}
+use Rattle.first_bytes.specs.declared.Form.the-variants.{Unused, Scalar}
 use Rattle.values.specs.Number.{number, numberAt}
-use Rattle.values.specs.Value.{shift, endOr0, payload, sized, andThen, items, byForm, one, tooDeep, container, value, inside}
-use Rattle.values.specs.declared.Number.{Number}
+use Rattle.values.specs.Value.{shift, payload, sized, andThen, items, byForm, one, tooDeep, container, value, inside}
 use Rattle.values.specs.declared.Number.the-variants.{Is, Missing}
 use Rattle.values.specs.declared.Read.{Read}
 use Rattle.values.specs.declared.Read.the-variants.{Whole, Broken}
@@ -97,40 +92,14 @@ items-broken v s at n p h = go (v (drop at s)) refl h
     go (Whole k) q h = absurd (let z : _≡_ {A = ℕ} 0 1 = cc in omega arith)
     go (Broken k) q h = rw q h
 
--- ---- the first byte
-
--- the numbers that a first byte gives are small: one test over all 256
-small : ℕ → ℕ → Bool
-small w f = both (leb w 4) (leb f 31)
-
-smallForm : Form → Bool
-smallForm Unused = true
-smallForm (Scalar k w f) = small w f
-smallForm (Array w f) = small w f
-smallForm (Map w f) = small w f
-
-abbrev pub Small : ℕ → ℕ → Type 0
-Small w f = (w ≤ 4) × (f ≤ 31)
-
-is-small : (w f : ℕ) → T (small w f) → Small w f
-unfolding small
-is-small w f t = (leb→le w 4 (both-left (leb w 4) (leb f 31) t), leb→le f 31 (both-right (leb w 4) (leb f 31) t))
-
-form-small : (b : ℕ) (h : Form) → b < 256 → h ≡ formOf b → T (smallForm h)
-unfolding smallForm small formOf
-form-small b h k e = subst (λ (h : Form). T (smallForm h)) (sym e) (all-at (λ b. smallForm (formOf b)) 0 256 tt b (omega arith) (omega arith))
-
-pub scalar-small : (b : ℕ) (k : Kind) (w f : ℕ) → b < 256 → Scalar k w f ≡ formOf b → Small w f
-unfolding smallForm
-scalar-small b k w f h e = is-small w f (form-small b (Scalar k w f) h e)
-
-pub array-small : (b w f : ℕ) → b < 256 → Array w f ≡ formOf b → Small w f
-unfolding smallForm
-array-small b w f h e = is-small w f (form-small b (Array w f) h e)
-
-pub map-small : (b w f : ℕ) → b < 256 → Map w f ≡ formOf b → Small w f
-unfolding smallForm
-map-small b w f h e = is-small w f (form-small b (Map w f) h e)
+-- one alone
+pub items-one : (v : Bytes → Read) (s : Bytes) (at : ℕ) → shift at (items v 1 (drop at s)) ≡ shift at (v (drop at s))
+unfolding items
+items-one v s at = go (v (drop at s))
+  where
+    go : (r : Read) → shift at (andThen r (λ k. Whole 0)) ≡ shift at r
+    go (Whole k) = rw add-zero
+    go (Broken p) = refl
 
 -- ---- one value, at a place
 
@@ -159,59 +128,6 @@ pub value-scalar : (s : Bytes) (at d : ℕ) (k : Kind) (w f : ℕ) → at < leng
 unfolding byForm
 value-scalar s at d k w f h e = rw (value-at s at d (Scalar k w f) h e, shift-shift)
 
--- a scalar of one byte
-pub value-byte : (s : Bytes) (at d : ℕ) (k : Kind) → at < length s → Scalar k 0 0 ≡ formOf (getD s at 0)
-    → Whole (at + 1) ≡ shift at (value d (drop at s))
-unfolding number
-value-byte s at d k h e =
-    let q : at + 1 ≡ at + 1 + 0 + (0 + 0) = omega arith in
-    ap Whole q ∙ payload-whole s (at + 1 + 0) (0 + 0) (omega arith)
-    ∙ sym (sized-is s (at + 1) 0 0 (λ n t. payload (n + 0) t) (omega arith) refl)
-    ∙ sym (value-scalar s at d k 0 0 h e)
-
--- by its first byte, which is below 0x80 or from 0xe0 on
-pub value-small : (s : Bytes) (at d : ℕ) → at < length s → getD s at 0 < 0x80 → Whole (at + 1) ≡ shift at (value d (drop at s))
-unfolding formOf
-value-small s at d h k = value-byte s at d Unsigned h (agree (λ b. Scalar Unsigned 0 0) formOf 0x00 128 tt (getD s at 0) (omega arith) (omega arith))
-
-pub value-high : (s : Bytes) (at d : ℕ) → at < length s → 0xe0 ≤ getD s at 0 → getD s at 0 < 256 → Whole (at + 1) ≡ shift at (value d (drop at s))
-unfolding formOf
-value-high s at d h k l = value-byte s at d Signed h (agree (λ b. Scalar Signed 0 0) formOf 0xe0 32 tt (getD s at 0) (omega arith) (omega arith))
-
--- what is no scalar, by its first byte, is none that is whole
-bare : Form → Bool
-bare Unused = true
-bare (Scalar k w f) = false
-bare (Array w f) = true
-bare (Map w f) = true
-
-bare-ended : (f : Form) (at : ℕ) (s : Bytes) → T (bare f) → 0 ≡ endOr0 (shift at (byForm (inside 0) f s))
-unfolding byForm inside tooDeep bare
-bare-ended Unused at s t = refl
-bare-ended (Scalar k w f) at s t = absurd t
-bare-ended (Array w f) at s t = refl
-bare-ended (Map w f) at s t = refl
-
-no-scalar : (s : Bytes) (at : ℕ) (f : Form) → at < length s → f ≡ formOf (getD s at 0) → T (bare f) → 0 ≡ endOr0 (shift at (value 0 (drop at s)))
-no-scalar s at f h e t = rw (value-at s at 0 f h e) (bare-ended f at (drop (at + 1) s) t)
-
--- by its first byte, which is a map's or an array's
-pub no-scalar-by-byte : (s : Bytes) (at : ℕ) → at < length s → 0x80 ≤ getD s at 0 → getD s at 0 < 0xa0 → 0 ≡ endOr0 (shift at (value 0 (drop at s)))
-unfolding formOf bare
-no-scalar-by-byte s at h k l = no-scalar s at (formOf (getD s at 0)) h refl (all-at (λ b. bare (formOf b)) 0x80 32 tt (getD s at 0) (omega arith) (omega arith))
-
-pub no-scalar-unused : (s : Bytes) (at : ℕ) → at < length s → Unused ≡ formOf (getD s at 0) → 0 ≡ endOr0 (shift at (value 0 (drop at s)))
-unfolding bare
-no-scalar-unused s at h e = no-scalar s at Unused h e tt
-
-pub no-scalar-array : (s : Bytes) (at w f : ℕ) → at < length s → Array w f ≡ formOf (getD s at 0) → 0 ≡ endOr0 (shift at (value 0 (drop at s)))
-unfolding bare
-no-scalar-array s at w f h e = no-scalar s at (Array w f) h e tt
-
-pub no-scalar-map : (s : Bytes) (at w f : ℕ) → at < length s → Map w f ≡ formOf (getD s at 0) → 0 ≡ endOr0 (shift at (value 0 (drop at s)))
-unfolding bare
-no-scalar-map s at w f h e = no-scalar s at (Map w f) h e tt
-
 pub inside-deep : (s : Bytes) (at w f p : ℕ) → Broken at ≡ shift at (inside 0 w f p s)
 unfolding inside tooDeep
 inside-deep s at w f p = rw add-zero
@@ -220,6 +136,3 @@ pub inside-items : (s : Bytes) (at d w f p : ℕ)
     → shift at (inside (suc d) w f p (drop (at + 1) s)) ≡ shift (at + 1) (sized w (λ n t. items (value d) (n * p + f) t) (drop (at + 1) s))
 unfolding inside container
 inside-items s at d w f p = rw shift-shift
-
-pub count-fits : (n f p : ℕ) → n < 2 ^ 32 → f ≤ 31 → p ≤ 2 → n * p + f < 2 ^ 64
-count-fits n f p h k l = omega (arith, mul-le-mul-left n l)

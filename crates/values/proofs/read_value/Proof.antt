@@ -1,20 +1,16 @@
--- A scalar by its end; else by its form. Assumes nothing.
+-- One of the values from a place on is the value there. Assumes nothing.
 use borrow.Author.Needs.{needs}
-use Rattle.values.proofs.Depth.{scalar-value}
+use mathlib.Core.Path.{_∙_}
+use Rattle.values.specs.Value.{value}
+use Rattle.values.proofs.Laws.{items-one}
 use Rattle.values.proofs.read_value.Statement.{statement}
 use Rattle.values.proofs.read_value.Tie as tie
 
-scalar-end-requires : tie.Need-scalar-end-requires
-scalar-end-requires c κs = search needs
+read-values-requires : tie.Need-read-values-requires
+read-values-requires c κs = search needs
 
 returns : tie.Need-returns
-returns c = let a = c .before .before .before .args in scalar-value (a .s .now) (a .at) (a .depth) _ (c .if1 .taken) (c .before .scalar-end .ensures)
-
-read-one-requires : tie.Need-read-one-requires
-read-one-requires c κs = search needs
-
-returns-2 : tie.Need-returns-2
-returns-2 c = c .read-one .ensures
+returns c = let a = c .before .before .args in c .read-values .ensures ∙ items-one (value (a .depth)) (a .s .now) (a .at)
 
 pub read-value-spec : {M : Type 1} → statement M
-read-value-spec = tie.close (tie.spec scalar-end-requires returns read-one-requires returns-2)
+read-value-spec = tie.close (tie.spec read-values-requires returns)

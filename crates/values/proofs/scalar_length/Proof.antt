@@ -1,0 +1,50 @@
+-- Each range by one computed test. Assumes nothing.
+use borrow.Author.Needs.{needs}
+use native.Mathlib.Omega.{arith}
+use Prim.Native.Nat.{_-_}
+use Rattle.first_bytes.specs.FirstByte.{formOf}
+use Rattle.values.specs.Opens.{scalarLength}
+use Rattle.values.proofs.Opens.{agrees}
+use Rattle.values.proofs.scalar_length.Statement.{statement}
+use Rattle.values.proofs.scalar_length.Tie as tie
+
+returns : tie.Need-returns
+unfolding scalarLength formOf
+returns c = agrees (λ b. 1) (λ b. scalarLength (formOf b)) 0x00 128 tt (c .before .args .b) (omega arith) (omega arith)
+
+returns-2 : tie.Need-returns-2
+unfolding scalarLength formOf
+returns-2 c = agrees (λ b. 1) (λ b. scalarLength (formOf b)) 0xe0 32 tt (c .before .before .args .b) (omega arith) (omega arith)
+
+returns-3 : tie.Need-returns-3
+unfolding scalarLength formOf
+returns-3 c = agrees (λ b. 0) (λ b. scalarLength (formOf b)) 0x80 32 tt (c .before .before .before .args .b) (omega arith) (omega arith)
+
+sub-result : tie.Need-sub-result
+sub-result c = search needs
+
+cast-result : tie.Need-cast-result
+cast-result c = search needs
+
+returns-4 : tie.Need-returns-4
+unfolding scalarLength formOf
+returns-4 c = agrees (λ b. b - 0x9f) (λ b. scalarLength (formOf b)) 0xa0 32 tt (c .before .before .before .before .args .b) (omega arith) (omega arith)
+
+wide-length-requires : tie.Need-wide-length-requires
+wide-length-requires c κs = search needs
+
+returns-5 : tie.Need-returns-5
+returns-5 c = search needs
+
+pub scalar-length-spec : {M : Type 1} → statement M
+scalar-length-spec =
+    tie.close
+    (tie.spec
+    returns
+    returns-2
+    returns-3
+    sub-result
+    cast-result
+    returns-4
+    wide-length-requires
+    returns-5)
