@@ -30,6 +30,10 @@ shortCount (Map w f) = f
 abbrev pub Width : ℕ → Type 0
 Width w = (1 ≤ w) × ((w ≤ 4) × (w ≡ 3 → ⊥))
 
+-- e, but for 0, is where the value at a place ends, whatever depth it may have
+abbrev pub Ends : Bytes → ℕ → ℕ → Type 0
+Ends s at e = 0 < e → (d : ℕ) → Whole e ≡ shift at (value d (drop at s))
+
 -- the answer q of a value in s, of depth at most d: known, or that of n values from a place on
 abbrev pub Opens : Bytes → ℕ → Read → Opening → Type 0
 Opens s d q (Past e) = Whole e ≡ q

@@ -16,11 +16,6 @@ abbrev pub shift : ℕ → Read → Read
 shift k (Whole n) = Whole (k + n)
 shift k (Broken p) = Broken (k + p)
 
--- where a whole value ends; 0 for a broken one
-abbrev pub endOr0 : Read → ℕ
-endOr0 (Whole n) = n
-endOr0 (Broken p) = 0
-
 -- n bytes, whatever they are ("Text is not checked as UTF-8"); else the end of the bytes, where more were due
 unfoldable pub payload : ℕ → Bytes → Read
 payload n s = pick (leb n (length s)) (Whole n) (Broken (length s))

@@ -5,7 +5,7 @@ ghost use lib.ListN.{length, take, drop, getD};
 ghost use Rattle.first_bytes.specs.FirstByte.{formOf};
 ghost use Rattle.values.specs.Number.{number, numberAt, Below};
 ghost use Rattle.values.specs.Value.{shift, payload, sized, items, inside, value};
-ghost use Rattle.values.specs.Opens.{scalarLength, shortCount, Width, Opens};
+ghost use Rattle.values.specs.Opens.{scalarLength, shortCount, Width, Ends, Opens};
 
 // Whole, with the place of the first byte after it; or broken, with the place of the first
 // spoiling byte: an unused first byte, a container one too deep, or the end of the bytes.
@@ -258,9 +258,57 @@ fn read_values(s: &[u8], at: usize, n: usize, most: usize) -> Read
     Read::Whole(end)
 }
 
-// One value at `at`, of depth at most `depth`.
+// The length of an integer or a short string by its first byte; 0 for any other value. With the
+// table of `scalar_length` the compiler would not put `read_value` into its callers.
+fn common_length(b: u8) -> usize
+    ensures { λ r. ⌜ (0 < r → r ≡ scalarLength (formOf b)) ⌝ }
+{
+    if b < 0x80 {
+        return 1;
+    }
+    if 0xe0 <= b {
+        return 1;
+    }
+    if b < 0xa0 {
+        return 0;
+    }
+    if b < 0xc0 {
+        return (b - 0x9f) as usize;
+    }
+    if b < 0xcc {
+        return 0;
+    }
+    if b < 0xd4 {
+        return 1 + (1usize << (b % 4));
+    }
+    0
+}
+
+// The place after the integer or short string at `at`, if it is whole; else 0.
+fn scalar_end(s: &[u8], at: usize) -> usize
+    ensures { λ r. ⌜ Ends (now (s .entry)) at r ⌝ }
+{
+    if s.len() <= at {
+        return 0;
+    }
+    let k = common_length(s[at]);
+    if s.len() - at < k {
+        return 0;
+    }
+    if k == 0 {
+        return 0;
+    }
+    at + k
+}
+
+// One value at `at`, of depth at most `depth`. The commonest scalars are answered without a call,
+// since a call that lends the slice takes longer than reading them.
 pub fn read_value(s: &[u8], at: usize, depth: usize) -> Read
     ensures { λ r. ⌜ r ≡ shift at (value depth (drop at (now (s .entry)))) ⌝ }
 {
+    let scalar = scalar_end(s, at);
+    if 0 < scalar {
+        return Read::Whole(scalar);
+    }
     read_values(s, at, 1, depth)
 }

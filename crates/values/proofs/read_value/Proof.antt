@@ -1,4 +1,4 @@
--- One of the values from a place on is the value there. Assumes nothing.
+-- The first byte tells the end, or one of the values from a place on is the value there. Assumes nothing.
 use borrow.Author.Needs.{needs}
 use mathlib.Core.Path.{_∙_}
 use Rattle.values.specs.Value.{value}
@@ -6,11 +6,17 @@ use Rattle.values.proofs.Laws.{items-one}
 use Rattle.values.proofs.read_value.Statement.{statement}
 use Rattle.values.proofs.read_value.Tie as tie
 
+scalar-end-requires : tie.Need-scalar-end-requires
+scalar-end-requires c κs = search needs
+
+returns : tie.Need-returns
+returns c = c .before .scalar-end .ensures (c .if1 .taken) (c .before .before .before .args .depth)
+
 read-values-requires : tie.Need-read-values-requires
 read-values-requires c κs = search needs
 
-returns : tie.Need-returns
-returns c = let a = c .before .before .args in c .read-values .ensures ∙ items-one (value (a .depth)) (a .s .now) (a .at)
+returns-2 : tie.Need-returns-2
+returns-2 c = let a = c .before .before .before .before .args in c .read-values .ensures ∙ items-one (value (a .depth)) (a .s .now) (a .at)
 
 pub read-value-spec : {M : Type 1} → statement M
-read-value-spec = tie.close (tie.spec read-values-requires returns)
+read-value-spec = tie.close (tie.spec scalar-end-requires returns read-values-requires returns-2)
