@@ -3,4 +3,5 @@ pub mod Big
 pub mod Laws
 pub mod Opens
 pub mod Local
+pub mod Depth
 pub mod Pieces
