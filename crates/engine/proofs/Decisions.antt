@@ -12,23 +12,36 @@ use Rattle.writing.specs.Forms.{arrayHeader}
 use Rattle.tuples.specs.Limits.{maxFields, maxTuple}
 use Rattle.tuples.specs.Edit.{stop}
 use Rattle.tuples.specs.declared.Refusal.the-variants.{NoField, TooLarge}
-use Rattle.engine.specs.Held.{sum, cutInto, holds, endOf, edit}
+use Rattle.engine.specs.Held.{sum, cutInto, holds, heldIn, endOf, edit}
 use Rattle.engine.specs.Decision.{goneBytes, within, unreached, decided, Editing}
 use Rattle.engine.specs.declared.Decided.{Decided}
 use Rattle.engine.specs.declared.Decided.the-variants.{Stop, Go}
 use Rattle.engine.proofs.Cut.{sum-more}
-use Rattle.engine.proofs.Ends.{Holds, held, is-held, end-here, holds-fewer}
-use Rattle.engine.proofs.Edits.{many, long-ones, both-within, is-within, too-large, Replacing, not-held, no-field, as-limited, edited, fields-after, bytes-after}
+use Rattle.engine.proofs.Ends.{Holds, held, end-held, end-start, end-here, holds-fewer}
+use Rattle.engine.proofs.Edits.{many, long-ones, no-room, both-within, is-within, too-large, Held, is-held-in, Replacing, not-held, no-field, as-limited, edited, fields-after, bytes-after}
 
 -- ---- each way to a decision
 
-pub unreached-held : (l : List ℕ) (n : ℕ) → Holds l n → Stop NoField ≡ unreached l n
-unfolding unreached
-unreached-held l n h = rw (held l n h)
+module _ (room : ℕ) (l : List ℕ) (n : ℕ) where
+  in-room : Holds l n → sum (take n l) ≤ room → heldIn room l n ≡ true
+  unfolding heldIn
+  in-room h k = rw (held l n h, le-leb _ _ k)
 
-pub unreached-unheld : (l : List ℕ) (n : ℕ) → holds l n ≡ false → Stop TooLarge ≡ unreached l n
-unfolding unreached
-unreached-unheld l n e = rw e
+  pub out-of-room : {e : ℕ} → e ≡ endOf l n → e ≤ maxTuple → room < e → heldIn room l n ≡ false
+  unfolding heldIn
+  out-of-room q h k = let s = end-start l n q h in rw (held l n (end-held l n (omega arith)), lt-leb (sum (take n l)) room (omega arith))
+
+  pub unheld : holds l n ≡ false → heldIn room l n ≡ false
+  unfolding heldIn
+  unheld e = rw e
+
+  pub unreached-held : {e : ℕ} → e ≡ endOf l n → e ≤ maxTuple → e ≤ room → Stop NoField ≡ unreached room l n
+  unfolding unreached
+  unreached-held q h k = let s = end-start l n q h in rw (in-room (end-held l n (omega arith)) (omega arith))
+
+  pub unreached-unheld : heldIn room l n ≡ false → Stop TooLarge ≡ unreached room l n
+  unfolding unreached
+  unreached-unheld e = rw e
 
 -- the ends that the code has found
 pub record Spans (l : List ℕ) (n f g all from to : ℕ) : Type 0 where
@@ -49,34 +62,41 @@ spans {l} {n} {f} {g} h k x y z =
     let j = sum-more (f + g) n l k in
     record { holding = h; part = k; total = a; start = b; end = c; order = omega arith; inside = omega arith }
 
-module _ (l : List ℕ) (n f g more long : ℕ) where
-  pub stop-unheld : holds l n ≡ false → Stop TooLarge ≡ decided l n f g more long
+module _ (room : ℕ) (l : List ℕ) (n f g more long : ℕ) where
+  pub stop-unheld : heldIn room l n ≡ false → Stop TooLarge ≡ decided room l n f g more long
   unfolding decided
   stop-unheld e = rw e
 
   -- past the fields, only why is left to say
-  pub stop-past : n < f + g → unreached l n ≡ decided l n f g more long
+  pub stop-past : n < f + g → unreached room l n ≡ decided room l n f g more long
   unfolding decided unreached
   stop-past k = rw (lt-leb _ _ k)
 
-  pub stop-large : Holds l n → f + g ≤ n → maxFields < n - g + more → Stop TooLarge ≡ decided l n f g more long
-  unfolding decided
-  stop-large h k m = rw (held l n h, le-leb _ _ k, many _ _ m)
-
-  module _ {all from to : ℕ} (s : Spans l n f g all from to) where
+  module _ {all from to : ℕ} (s : Spans l n f g all from to) (r : all ≤ room) where
     weight : sum (take n l) - goneBytes l f g + long ≡ all - (to - from) + long
     unfolding goneBytes
     weight = rw (s .total, s .start, s .end)
 
-    pub stop-long : n - g + more ≤ maxFields → maxTuple < length (arrayHeader (n - g + more)) + (all - (to - from) + long)
-        → Stop TooLarge ≡ decided l n f g more long
-    unfolding decided
-    stop-long m i = rw (held l n (s .holding), le-leb _ _ (s .part), weight, long-ones _ _ m i)
+    there : heldIn room l n ≡ true
+    there = in-room room l n (s .holding) (let e = s .total in omega arith)
 
-    pub go-on : n - g + more ≤ maxFields → length (arrayHeader (n - g + more)) + (all - (to - from) + long) ≤ maxTuple
-        → Go all from (to - from) ≡ decided l n f g more long
+    pub stop-large : maxFields < n - g + more → Stop TooLarge ≡ decided room l n f g more long
+    unfolding decided
+    stop-large m = rw (there, le-leb _ _ (s .part), many _ _ _ m)
+
+    pub stop-long : n - g + more ≤ maxFields → maxTuple < length (arrayHeader (n - g + more)) + (all - (to - from) + long)
+        → Stop TooLarge ≡ decided room l n f g more long
+    unfolding decided
+    stop-long m i = rw (there, le-leb _ _ (s .part), weight, long-ones _ _ _ m i)
+
+    pub stop-room : room < all - (to - from) + long → Stop TooLarge ≡ decided room l n f g more long
+    unfolding decided
+    stop-room i = rw (there, le-leb _ _ (s .part), weight, no-room _ _ _ i)
+
+    pub go-on : n - g + more ≤ maxFields → length (arrayHeader (n - g + more)) + (all - (to - from) + long) ≤ maxTuple → all - (to - from) + long ≤ room
+        → Go all from (to - from) ≡ decided room l n f g more long
     unfolding decided goneBytes
-    go-on m i = rw (held l n (s .holding), le-leb _ _ (s .part), s .total, s .start, s .end, both-within _ _ m i)
+    go-on m i j = rw (there, le-leb _ _ (s .part), s .total, s .start, s .end, both-within _ _ _ m i j)
 
 -- ---- what it means for fields that ks cut p into
 
@@ -85,6 +105,7 @@ module _ (s : Bytes) (l : List ℕ) (n f g : ℕ) (ks : List ℕ) (p : Bytes) wh
     pub replacing : Replacing s l n f g ks p
     pub few : n - g + length ks ≤ maxFields
     pub short : length (arrayHeader (n - g + length ks)) + (sum (take n l) - goneBytes l f g + length p) ≤ maxTuple
+    pub room : sum (take n l) - goneBytes l f g + length p ≤ length s
     pub all : total ≡ sum (take n l)
     pub start : from ≡ sum (take f l)
     pub bytes : gone ≡ goneBytes l f g
@@ -93,31 +114,31 @@ module _ (s : Bytes) (l : List ℕ) (n f g : ℕ) (ks : List ℕ) (p : Bytes) wh
   Means (Stop k) = stop k ≡ edit f g (cutInto ks p) s l n
   Means (Go total from gone) = Going total from gone
 
-  module _ (q : Editing s l ks p) where
+  module _ (q : Editing l ks p) where
     go : Decided
     go = Go (sum (take n l)) (sum (take f l)) (goneBytes l f g)
 
-    by-size : Replacing s l n f g ks p → (b : Bool) → within (n - g + length ks) (sum (take n l) - goneBytes l f g + length p) ≡ b → Means (pick b go (Stop TooLarge))
+    by-size : Replacing s l n f g ks p → (b : Bool) → within (length s) (n - g + length ks) (sum (take n l) - goneBytes l f g + length p) ≡ b → Means (pick b go (Stop TooLarge))
     unfolding go
     by-size r true e =
-        let w = is-within _ _ e in
-        record { replacing = r; few = w .0; short = w .1; all = refl; start = refl; bytes = refl }
+        let w = is-within _ _ _ e in
+        record { replacing = r; few = w .0; short = w .1 .0; room = w .1 .1; all = refl; start = refl; bytes = refl }
     by-size r false e =
-        too-large (edited r) (fields-after r) (bytes-after r) e ∙ as-limited f g (cutInto ks p) s l n (r .holding) (r .part)
+        too-large (length s) (edited r) (fields-after r) (bytes-after r) e ∙ as-limited f g (cutInto ks p) s l n (r .fields) (r .part)
 
-    by-part : Holds l n → (b : Bool) → leb (f + g) n ≡ b
-        → Means (pick b (pick (within (n - g + length ks) (sum (take n l) - goneBytes l f g + length p)) go (Stop TooLarge)) (Stop NoField))
-    by-part h true e = by-size (record { holding = h; room = q .room; part = leb-true _ _ e; whole = q .whole }) _ refl
+    by-part : Held s l n → (b : Bool) → leb (f + g) n ≡ b
+        → Means (pick b (pick (within (length s) (n - g + length ks) (sum (take n l) - goneBytes l f g + length p)) go (Stop TooLarge)) (Stop NoField))
+    by-part h true e = by-size (record { fields = h; part = leb-true _ _ e; whole = q .whole }) _ refl
     by-part h false e = no-field f g (cutInto ks p) s l n h (leb-false _ _ e)
 
-    by-holds : (b : Bool) → holds l n ≡ b
+    by-holds : (b : Bool) → heldIn (length s) l n ≡ b
         → Means
         (pick b
-        (pick (leb (f + g) n) (pick (within (n - g + length ks) (sum (take n l) - goneBytes l f g + length p)) go (Stop TooLarge)) (Stop NoField))
+        (pick (leb (f + g) n) (pick (within (length s) (n - g + length ks) (sum (take n l) - goneBytes l f g + length p)) go (Stop TooLarge)) (Stop NoField))
         (Stop TooLarge))
-    by-holds true e = by-part (is-held l n e) (leb (f + g) n) refl
+    by-holds true e = by-part (is-held-in s l n e) (leb (f + g) n) refl
     by-holds false e = not-held f g (cutInto ks p) s l n e
 
-    pub meaning : Means (decided l n f g (length ks) (length p))
+    pub meaning : Means (decided (length s) l n f g (length ks) (length p))
     unfolding decided go
-    meaning = by-holds (holds l n) refl
+    meaning = by-holds (heldIn (length s) l n) refl

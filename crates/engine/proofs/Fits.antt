@@ -13,6 +13,7 @@ use Rattle.tuples.specs.Tuple.{Fields}
 use Rattle.engine.specs.Held.{sum, cutInto, fieldsIn, endOf, lengthsOf, over, Fit}
 use Rattle.engine.proofs.Cut.{sum-next, sum-more, sum-append, length-cut, drop-cut, joined-cut}
 use Rattle.engine.proofs.Ends.{Holds, end-here, holds-fewer}
+use Rattle.engine.proofs.Edits.{Held}
 
 -- ---- fields laid over the arrays are what they hold
 
@@ -40,13 +41,13 @@ module _ (t : Fields) (s : Bytes) (l : List ℕ) where
   unfolding over
   held-over = ap (λ (k : List ℕ). cutInto k (over (joined t) s)) rows ∙ cut-lengths t (drop (length (joined t)) s)
 
-  pub fit-over : length t ≤ maxFields → length (joined t) ≤ maxTuple → length s ≡ maxTuple → length l ≡ maxFields
+  pub fit-over : length t ≤ maxFields → length (joined t) ≤ maxTuple → length (joined t) ≤ length s → length l ≡ maxFields
       → Fit (over (joined t) s) (over (lengthsOf t) l) (length t)
   unfolding over
   fit-over h k a b =
       let i = length-lengths t in
       record {
-        room = simp (length-append, length-drop) (omega arith);
+        room = rw (rows, sum-lengths t) (simp (length-append, length-drop) (omega arith));
         rows = simp (length-append, length-drop) (omega arith);
         few = h;
         short = rw (rows, sum-lengths t) k;
@@ -57,6 +58,9 @@ module _ (t : Fields) (s : Bytes) (l : List ℕ) where
 module _ {s : Bytes} {l : List ℕ} {n : ℕ} (fit : Fit s l n) where
   pub holding : Holds l n
   holding = record { few = fit .few; rows = omega arith; short = fit .short }
+
+  pub holding-in : Held s l n
+  holding-in = record { holding = holding; room = fit .room }
 
   pub field-count : length (fieldsIn s l n) ≡ n
   field-count = length-cut (take n l) s ∙ length-take-le n l (omega arith)

@@ -9,7 +9,7 @@ use Rattle.first_bytes.specs.Bytes.{Bytes, pick}
 use Rattle.writing.specs.Forms.{arrayHeader}
 use Rattle.tuples.specs.Limits.{maxFields, maxTuple}
 use Rattle.tuples.specs.declared.Refusal.the-variants.{NoField, TooLarge}
-use Rattle.engine.specs.Held.{sum, holds}
+use Rattle.engine.specs.Held.{sum, heldIn}
 use Rattle.engine.specs.declared.Decided.{Decided}
 use Rattle.engine.specs.declared.Decided.the-variants.{Stop, Go}
 
@@ -17,19 +17,19 @@ use Rattle.engine.specs.declared.Decided.the-variants.{Stop, Go}
 unfoldable pub goneBytes : List ℕ → ℕ → ℕ → ℕ
 goneBytes lengths f gone = sum (take (f + gone) lengths) - sum (take f lengths)
 
--- whether n fields of m bytes together are within a tuple's limits
-unfoldable pub within : ℕ → ℕ → Bool
-within n m = leb n maxFields && leb (length (arrayHeader n) + m) maxTuple
+-- whether n fields of m bytes together are within a tuple's limits, and have room
+unfoldable pub within : ℕ → ℕ → ℕ → Bool
+within room n m = (leb n maxFields && leb (length (arrayHeader n) + m) maxTuple) && leb m room
 
 -- why no edit reaches past the n fields
-unfoldable pub unreached : List ℕ → ℕ → Decided
-unreached lengths n = pick (holds lengths n) (Stop NoField) (Stop TooLarge)
+unfoldable pub unreached : ℕ → List ℕ → ℕ → Decided
+unreached room lengths n = pick (heldIn room lengths n) (Stop NoField) (Stop TooLarge)
 
-unfoldable pub decided : List ℕ → ℕ → ℕ → ℕ → ℕ → ℕ → Decided
-decided lengths n f gone more long =
-    pick (holds lengths n)
+unfoldable pub decided : ℕ → List ℕ → ℕ → ℕ → ℕ → ℕ → ℕ → Decided
+decided room lengths n f gone more long =
+    pick (heldIn room lengths n)
     (pick (leb (f + gone) n)
-    (pick (within (n - gone + more) (sum (take n lengths) - goneBytes lengths f gone + long))
+    (pick (within room (n - gone + more) (sum (take n lengths) - goneBytes lengths f gone + long))
     (Go (sum (take n lengths)) (sum (take f lengths)) (goneBytes lengths f gone))
     (Stop TooLarge))
     (Stop NoField))
@@ -39,9 +39,8 @@ decided lengths n f gone more long =
 abbrev pub rowsOf : ℕ → Bytes → List ℕ
 rowsOf more piece = take more (length piece ∷ [])
 
--- arrays of a tuple's size, and at most one length, which is the piece's
-pub record Editing (scratch : Bytes) (lengths : List ℕ) (cuts : List ℕ) (piece : Bytes) : Type 0 where
-  pub room : length scratch ≡ maxTuple
+-- a table of a tuple's size, and at most one length, which is the piece's
+pub record Editing (lengths : List ℕ) (cuts : List ℕ) (piece : Bytes) : Type 0 where
   pub rows : length lengths ≡ maxFields
   pub few : length cuts ≤ 1
   pub whole : sum cuts ≡ length piece

@@ -9,7 +9,7 @@ use Rattle.first_bytes.specs.Bytes.{Bytes, pick}
 use Rattle.values.specs.Pieces.{joined}
 use Rattle.tuples.specs.Limits.{maxFields, maxTuple}
 use Rattle.tuples.specs.Tuple.{Fields}
-use Rattle.tuples.specs.Edit.{Step, stop, next, spliced, limited}
+use Rattle.tuples.specs.Edit.{Step, stop, next, spliced, fits}
 use Rattle.tuples.specs.declared.Refusal.the-variants.{NoField, TooLarge}
 use Rattle.engine.specs.declared.Edited.{Edited}
 use Rattle.engine.specs.declared.Edited.the-variants.{Stop, Next}
@@ -34,12 +34,20 @@ holds lengths n = leb n maxFields && (leb n (length lengths) && leb (sum (take n
 unfoldable pub endOf : List ℕ → ℕ → ℕ
 endOf lengths n = pick (holds lengths n) (sum (take n lengths)) (maxTuple + 1)
 
+-- whether an array of `room` bytes has them too
+unfoldable pub heldIn : ℕ → List ℕ → ℕ → Bool
+heldIn room lengths n = holds lengths n && leb (sum (take n lengths)) room
+
+-- the definition's limit, and that of an array of `room` bytes: refused alike, so 16 is certain only where there is room for every tuple
+unfoldable pub limitedTo : ℕ → Fields → Step
+limitedTo room t = pick (fits t && leb (length (joined t)) room) (next t) (stop TooLarge)
+
 -- fields xs come for `gone` of the n from f on: "13: f ... past what the operation allows"; "16: more than 64 fields, or more than
--- 16,384 bytes", and so where the table holds no n
+-- 16,384 bytes", and so where table and array hold no n
 unfoldable pub edit : ℕ → ℕ → Fields → Bytes → List ℕ → ℕ → Step
 edit f gone xs scratch lengths n =
-    pick (holds lengths n)
-    (pick (leb (f + gone) n) (limited (spliced f gone xs (fieldsIn scratch lengths n))) (stop NoField))
+    pick (heldIn (length scratch) lengths n)
+    (pick (leb (f + gone) n) (limitedTo (length scratch) (spliced f gone xs (fieldsIn scratch lengths n))) (stop NoField))
     (stop TooLarge)
 
 -- ---- what is left of a step: the answer, and both arrays, as they were past the fields that they hold now
@@ -68,9 +76,9 @@ pub record Left (r : Edited) (scratch : Bytes) (lengths : List ℕ) (scratch₀ 
   pub bytes : scratch ≡ scratchOf to scratch₀
   pub table : lengths ≡ tableOf to lengths₀
 
--- arrays of a tuple's size that hold n fields within the limits
+-- arrays that hold n fields within the limits
 pub record Fit (scratch : Bytes) (lengths : List ℕ) (n : ℕ) : Type 0 where
-  pub room : length scratch ≡ maxTuple
+  pub room : sum (take n lengths) ≤ length scratch
   pub rows : length lengths ≡ maxFields
   pub few : n ≤ maxFields
   pub short : sum (take n lengths) ≤ maxTuple

@@ -1,5 +1,6 @@
 // The tuple under work: its fields lie back to back at the front of a scratch array, and a table has
-// their lengths. Nothing here knows MessagePack but for the length of the array's header.
+// their lengths. What has no room in the array is refused as what is too large for a tuple. Nothing
+// here knows MessagePack but for the length of the array's header.
 use tuples::MAX_FIELDS;
 use tuples::MAX_TUPLE;
 use tuples::Refusal;
@@ -75,26 +76,39 @@ pub fn extent_of(lengths: &[u16], f: usize) -> Extent
     Extent { from, to }
 }
 
-// Why no edit reaches past the n fields: there are not so many; or the table does not hold them.
-fn stopped(lengths: &[u16], n: usize) -> Decided
-    ensures { λ r. ⌜ r ≡ unreached (now (lengths .entry)) n ⌝ }
+// Why no edit reaches past the n fields: there are not so many; or table and array do not hold them.
+fn stopped(room: usize, lengths: &[u16], n: usize) -> Decided
+    ensures { λ r. ⌜ r ≡ unreached room (now (lengths .entry)) n ⌝ }
 {
-    if MAX_TUPLE < end_of(lengths, n) {
+    let bytes = end_of(lengths, n);
+    if MAX_TUPLE < bytes {
+        return Decided::Stop(Refusal::TooLarge);
+    }
+    if room < bytes {
         return Decided::Stop(Refusal::TooLarge);
     }
     Decided::Stop(Refusal::NoField)
 }
 
-// Whether `more` fields of `long` bytes together may come for `gone` of the n from f on.
-fn decide(lengths: &[u16], n: usize, f: usize, gone: usize, more: usize, long: usize) -> Decided
+// Whether `more` fields of `long` bytes together may come for `gone` of the n from f on, in an array
+// of `room` bytes.
+fn decide(
+    room: usize,
+    lengths: &[u16],
+    n: usize,
+    f: usize,
+    gone: usize,
+    more: usize,
+    long: usize,
+) -> Decided
     requires { ⌜ (more ≤ 1) × (long < 2 ^ 63) ⌝ }
-    ensures { λ r. ⌜ r ≡ decided (now (lengths .entry)) n f gone more long ⌝ }
+    ensures { λ r. ⌜ r ≡ decided room (now (lengths .entry)) n f gone more long ⌝ }
 {
     if n < f {
-        return stopped(lengths, n);
+        return stopped(room, lengths, n);
     }
     if n - f < gone {
-        return stopped(lengths, n);
+        return stopped(room, lengths, n);
     }
     let from = end_of(lengths, f);
     let to = end_after(lengths, f, from, f + gone);
@@ -102,12 +116,19 @@ fn decide(lengths: &[u16], n: usize, f: usize, gone: usize, more: usize, long: u
     if MAX_TUPLE < bytes {
         return Decided::Stop(Refusal::TooLarge);
     }
+    if room < bytes {
+        return Decided::Stop(Refusal::TooLarge);
+    }
     let fields = n - gone + more;
     if MAX_FIELDS < fields {
         return Decided::Stop(Refusal::TooLarge);
     }
     let gone_bytes = to - from;
-    if MAX_TUPLE - headers::array_header_length(fields as u32) < bytes - gone_bytes + long {
+    let total = bytes - gone_bytes + long;
+    if MAX_TUPLE - headers::array_header_length(fields as u32) < total {
+        return Decided::Stop(Refusal::TooLarge);
+    }
+    if room < total {
         return Decided::Stop(Refusal::TooLarge);
     }
     Decided::Go(bytes, from, gone_bytes)
@@ -124,11 +145,11 @@ fn edit_fields(
     more: usize,
     piece: &[u8],
 ) -> Edited
-    requires { ⌜ Editing (now scratch) (now lengths) (rowsOf more (now piece)) (now piece) × (more ≤ 1) ⌝ }
+    requires { ⌜ Editing (now lengths) (rowsOf more (now piece)) (now piece) × (more ≤ 1) ⌝ }
     ensures { λ r. ⌜ Left r (now (scratch .exit)) (now (lengths .exit)) (now (scratch .entry)) (now (lengths .entry))
         (edit f gone (cutInto (rowsOf more (now (piece .entry))) (now (piece .entry))) (now (scratch .entry)) (now (lengths .entry)) n) ⌝ }
 {
-    match decide(lengths, n, f, gone, more, piece.len()) {
+    match decide(scratch.len(), lengths, n, f, gone, more, piece.len()) {
         Decided::Stop(refusal) => Edited::Stop(refusal),
         Decided::Go(bytes, from, gone_bytes) => {
             moves::splice_bytes(scratch, bytes, from, gone_bytes, piece);
@@ -141,7 +162,7 @@ fn edit_fields(
 
 // The piece comes for `gone` of the n fields from f on.
 pub fn put_in(
-    scratch: &mut [u8; MAX_TUPLE],
+    scratch: &mut [u8],
     lengths: &mut [u16; MAX_FIELDS],
     n: usize,
     f: usize,
@@ -156,7 +177,7 @@ pub fn put_in(
 
 // `gone` of the n fields, from f on, go.
 pub fn cut_out(
-    scratch: &mut [u8; MAX_TUPLE],
+    scratch: &mut [u8],
     lengths: &mut [u16; MAX_FIELDS],
     n: usize,
     f: usize,

@@ -11,11 +11,14 @@ slice-aggregate-edit-fields c = search needs
 
 edit-fields-requires : tie.Need-edit-fields-requires
 unfolding sum
-edit-fields-requires c κs = (record { room = search needs; rows = search needs; few = omega arith; whole = refl }, omega arith)
+edit-fields-requires c κs = (record { rows = search needs; few = omega arith; whole = refl }, omega arith)
+
+same-length : tie.Need-same-length
+same-length c = search needs
 
 returns : tie.Need-returns
 unfolding cutInto
-returns c = c .edit-fields .ensures
+returns c = c .before .before .edit-fields .ensures
 
 pub cut-out-spec : {M : Type 1} → statement M
-cut-out-spec = tie.close (tie.spec slice-aggregate-edit-fields edit-fields-requires returns)
+cut-out-spec = tie.close (tie.spec slice-aggregate-edit-fields edit-fields-requires same-length returns)

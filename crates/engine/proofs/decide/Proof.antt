@@ -5,7 +5,7 @@ use Rattle.writing.specs.Forms.{arrayHeader}
 use Rattle.writing.proofs.Lengths.{Long, array-long}
 use Prim.Native.Nat.{_+_, _-_}
 use Rattle.engine.proofs.Ends.{end-held, end-unheld}
-use Rattle.engine.proofs.Decisions.{Spans, spans, stop-unheld, stop-past, stop-large, stop-long, go-on}
+use Rattle.engine.proofs.Decisions.{out-of-room, unheld, Spans, spans, stop-unheld, stop-past, stop-large, stop-long, stop-room, go-on}
 use borrow.Author.Needs.{needs}
 use Rattle.engine.proofs.decide.Statement.{statement}
 use Rattle.engine.proofs.decide.Tie as tie
@@ -18,20 +18,20 @@ found c =
     spans (end-held (a .lengths .now) (a .n) (omega (arith, e .end-after2 .ensures))) (omega arith) (e .end-after2 .ensures) (e .before .before .end-of .ensures) (e .before .end-after .ensures)
 
 -- the new header is short
-header : (c : tie.After-array-header-length) → (let a = c .before .before .before .before .before .before .before .before .before .args in Long 5 (arrayHeader (a .n - a .gone + a .more)))
-header c = let a = c .before .before .before .before .before .before .before .before .before .args in array-long (a .n - a .gone + a .more)
+header : (c : tie.After-array-header-length) → (let a = c .before .before .before .before .before .before .before .before .before .before .args in Long 5 (arrayHeader (a .n - a .gone + a .more)))
+header c = let a = c .before .before .before .before .before .before .before .before .before .before .args in array-long (a .n - a .gone + a .more)
 
 stopped-requires : tie.Need-stopped-requires
 stopped-requires c κs = search needs
 
 returns : tie.Need-returns
-returns c = c .stopped .ensures ∙ stop-past _ _ _ _ _ _ (omega arith)
+returns c = c .stopped .ensures ∙ stop-past _ _ _ _ _ _ _ (omega arith)
 
 stopped-requires-2 : tie.Need-stopped-requires-2
 stopped-requires-2 c κs = search needs
 
 returns-2 : tie.Need-returns-2
-returns-2 c = c .stopped2 .ensures ∙ stop-past _ _ _ _ _ _ (omega arith)
+returns-2 c = c .stopped2 .ensures ∙ stop-past _ _ _ _ _ _ _ (omega arith)
 
 end-of-requires : tie.Need-end-of-requires
 end-of-requires c κs = search needs
@@ -49,19 +49,31 @@ end-after-requires-2 : tie.Need-end-after-requires-2
 end-after-requires-2 c κs = search needs
 
 returns-3 : tie.Need-returns-3
-returns-3 c = let a = c .before .before .before .before .before .before .before .args in stop-unheld _ _ _ _ _ _ (end-unheld (a .lengths .now) (a .n) (omega (arith, c .before .end-after2 .ensures)))
+returns-3 c =
+    let e = c .before in
+    let a = e .before .before .before .before .before .before .args in
+    stop-unheld _ _ _ _ _ _ _ (unheld _ _ _ (end-unheld (a .lengths .now) (a .n) (omega (arith, e .end-after2 .ensures))))
+
+returns-4 : tie.Need-returns-4
+returns-4 c = stop-unheld _ _ _ _ _ _ _ (out-of-room _ _ _ (c .before .before .end-after2 .ensures) (c .before .if3 .left) (c .if4 .taken))
 
 sub-fields : tie.Need-sub-fields
 sub-fields c = search needs
 
 add-fields : tie.Need-add-fields
-add-fields c = let s = found c in omega (arith, s .holding .rows)
+add-fields c = let s = found (c .before) in omega (arith, s .holding .rows)
 
-returns-4 : tie.Need-returns-4
-returns-4 c = let s = found (c .before) in stop-large _ _ _ _ _ _ (s .holding) (s .part) (c .if4 .taken)
+returns-5 : tie.Need-returns-5
+returns-5 c = stop-large _ _ _ _ _ _ _ (found (c .before .before)) (c .before .if4 .left) (c .if5 .taken)
 
 sub-gone-bytes : tie.Need-sub-gone-bytes
-sub-gone-bytes c = let s = found (c .before) in omega arith
+sub-gone-bytes c = let s = found (c .before .before) in omega arith
+
+sub-total : tie.Need-sub-total
+sub-total c = let s = found (c .before .before) in omega arith
+
+add-total : tie.Need-add-total
+add-total c = let s = found (c .before .before) in omega arith
 
 cast-array-header-length : tie.Need-cast-array-header-length
 cast-array-header-length c = search needs
@@ -69,20 +81,25 @@ cast-array-header-length c = search needs
 array-header-length-requires : tie.Need-array-header-length-requires
 array-header-length-requires c κs = search needs
 
-sub-if5 : tie.Need-sub-if5
-sub-if5 c = let h = header c in omega arith
-
-sub-if5-2 : tie.Need-sub-if5-2
-sub-if5-2 c = let s = found (c .before .before) in omega arith
-
-add-if5 : tie.Need-add-if5
-add-if5 c = search needs
-
-returns-5 : tie.Need-returns-5
-returns-5 c = let h = header (c .before) in stop-long _ _ _ _ _ _ (found (c .before .before .before)) (omega arith) (omega arith)
+sub-if6 : tie.Need-sub-if6
+sub-if6 c = let h = header c in omega arith
 
 returns-6 : tie.Need-returns-6
-returns-6 c = let h = header (c .before) in go-on _ _ _ _ _ _ (found (c .before .before .before)) (omega arith) (omega arith)
+returns-6 c =
+    let h = header (c .before) in
+    let r = c .before .before .before in
+    stop-long _ _ _ _ _ _ _ (found (r .before)) (r .if4 .left) (omega arith) (omega arith)
+
+returns-7 : tie.Need-returns-7
+returns-7 c =
+    let r = c .before .before .before .before in
+    stop-room _ _ _ _ _ _ _ (found (r .before)) (r .if4 .left) (c .if7 .taken)
+
+returns-8 : tie.Need-returns-8
+returns-8 c =
+    let h = header (c .before .before) in
+    let r = c .before .before .before .before in
+    go-on _ _ _ _ _ _ _ (found (r .before)) (r .if4 .left) (omega arith) (omega arith) (c .if7 .left)
 
 pub decide-spec : {M : Type 1} → statement M
 decide-spec =
@@ -98,14 +115,16 @@ decide-spec =
     add-end-after-2
     end-after-requires-2
     returns-3
+    returns-4
     sub-fields
     add-fields
-    returns-4
+    returns-5
     sub-gone-bytes
+    sub-total
+    add-total
     cast-array-header-length
     array-header-length-requires
-    sub-if5
-    sub-if5-2
-    add-if5
-    returns-5
-    returns-6)
+    sub-if6
+    returns-6
+    returns-7
+    returns-8)

@@ -37,8 +37,8 @@ enum-known-bytes c = search needs
 splice-bytes-requires : tie.Need-splice-bytes-requires
 splice-bytes-requires c κs = search needs
 
-cast-t22 : tie.Need-cast-t22
-cast-t22 c = let g = going (c .before .before .before .before) in omega (arith, g .short)
+cast-t23 : tie.Need-cast-t23
+cast-t23 c = let g = going (c .before .before .before .before) in omega (arith, g .short)
 
 array-share-prefix-one : tie.Need-array-share-prefix-one
 array-share-prefix-one c = search needs
@@ -51,11 +51,11 @@ slice-aggregate-splice-lengths c =
 splice-lengths-requires : tie.Need-splice-lengths-requires
 splice-lengths-requires c κs = search needs
 
-sub-t21 : tie.Need-sub-t21
-sub-t21 c = let g = going (c .before .before .before .before .before .before .before .before .before) in omega (arith, g .replacing .part)
+sub-t22 : tie.Need-sub-t22
+sub-t22 c = let g = going (c .before .before .before .before .before .before .before .before .before) in omega (arith, g .replacing .part)
 
-add-t27 : tie.Need-add-t27
-add-t27 c =
+add-t28 : tie.Need-add-t28
+add-t28 c =
     let k = c .before .before .before .before .before .before .before .before .before in
     let o = k .before .before .before .before .before .before .before .before in
     let e = rows (o .args .more) (o .args .piece .now) (o .pre .1) in
@@ -81,7 +81,7 @@ returns-2 c =
     let g = going k in
     let o = k .before .before .before .before .before .before .before .before in
     rw (rows (o .args .more) (o .args .piece .now) (o .pre .1)) at
-    (edit-done (g .replacing) (g .few) (g .short) (o .pre .0 .rows) (l .splice-lengths .ensures .1) (s .splice-bytes .ensures .1 ∙ rw (g .all, g .start, g .bytes)))
+    (edit-done (g .replacing) (g .few) (g .short) (g .room) (o .pre .0 .rows) (l .splice-lengths .ensures .1) (s .splice-bytes .ensures .1 ∙ rw (g .all, g .start, g .bytes)))
 
 pub edit-fields-spec : {M : Type 1} → statement M
 edit-fields-spec =
@@ -91,12 +91,12 @@ edit-fields-spec =
     enum-known-refusal
     enum-known-bytes
     splice-bytes-requires
-    cast-t22
+    cast-t23
     array-share-prefix-one
     slice-aggregate-splice-lengths
     splice-lengths-requires
-    sub-t21
-    add-t27
+    sub-t22
+    add-t28
     same-length
     returns
     same-length-2

@@ -1,8 +1,8 @@
 -- One law for each way back. Assumes nothing.
 use native.Mathlib.Omega.{arith}
+use Rattle.engine.proofs.Ends.{end-unheld}
+use Rattle.engine.proofs.Decisions.{out-of-room, unheld, unreached-held, unreached-unheld}
 use borrow.Author.Needs.{needs}
-use Rattle.engine.proofs.Ends.{end-held, end-unheld}
-use Rattle.engine.proofs.Decisions.{unreached-held, unreached-unheld}
 use Rattle.engine.proofs.stopped.Statement.{statement}
 use Rattle.engine.proofs.stopped.Tie as tie
 
@@ -10,10 +10,16 @@ end-of-requires : tie.Need-end-of-requires
 end-of-requires c κs = search needs
 
 returns : tie.Need-returns
-returns c = let a = c .before .before .before .args in unreached-unheld _ _ (end-unheld (a .lengths .now) (a .n) (omega arith))
+returns c =
+    let e = c .before in
+    let a = e .before .before .args in
+    unreached-unheld _ _ _ (unheld _ _ _ (end-unheld (a .lengths .now) (a .n) (omega (arith, e .end-of .ensures))))
 
 returns-2 : tie.Need-returns-2
-returns-2 c = let a = c .before .before .before .args in unreached-held _ _ (end-held (a .lengths .now) (a .n) (omega arith))
+returns-2 c = unreached-unheld _ _ _ (out-of-room _ _ _ (c .before .before .end-of .ensures) (c .before .if1 .left) (c .if2 .taken))
+
+returns-3 : tie.Need-returns-3
+returns-3 c = unreached-held _ _ _ (c .before .before .end-of .ensures) (c .before .if1 .left) (c .if2 .left)
 
 pub stopped-spec : {M : Type 1} → statement M
-stopped-spec = tie.close (tie.spec end-of-requires returns returns-2)
+stopped-spec = tie.close (tie.spec end-of-requires returns returns-2 returns-3)
