@@ -3,6 +3,7 @@ use mathlib.Core.Path.{_≡_, refl, sym, subst, ap, _∙_}
 use mathlib.Core.Bool.{Bool, true, false, _&&_}
 use mathlib.Core.List.{List, [], _∷_, _++_}
 use mathlib.Core.Option.{Option, none, some}
+use mathlib.Core.Logic.{inl, inr}
 use Prim.Native.Nat.{ℕ, zero, suc, _+_, _<_, _≤_}
 use native.Mathlib.Omega.{arith}
 use borrow.Author.Tests.{leb-true, leb-false, lt-ltb, le-ltb, lt-leb}
@@ -18,7 +19,7 @@ use Rattle.tuples.specs.Edit.{Edit, refuse, put, add, cut, spliced, became, sui
 use Rattle.tuples.specs.declared.Refusal.{Refusal}
 use Rattle.tuples.specs.declared.Refusal.the-variants.{NoField, Unsuited, OutOfRange, TooLarge}
 use Rattle.tuples.proofs.Legal.{plain-length, field-length}
-use Rattle.computing.specs.Altering.{within, alteredBy, workBy, Alters}
+use Rattle.computing.specs.Altering.{within, Unless, alteredBy, workBy, Alters}
 use Rattle.computing.specs.declared.Altered.{Altered}
 use Rattle.computing.specs.declared.Altered.the-variants.{Is, Refused, Other}
 use Rattle.altering.specs.Edits.{editOf}
@@ -74,12 +75,12 @@ too-large f b t h =
     let m : maxTuple < length (plain u) = rw plain-length (omega arith) in
     rw (lt-leb (length (plain u)) maxTuple m, and-false (leb (length u) maxFields))
 
--- ---- what a caller with room for every field goes on from
+-- ---- what a caller goes on from
 
-module _ (work left : Bytes) (room : maxTuple ≤ length work) where
+module _ (work left : Bytes) where
   abbrev Stepped : ℕ → Fields → Action → Altered → Type 0
   Stepped f t a (Is n) = (n ≤ length left) × (editAt a f t ≡ put f (take n left))
-  Stepped f t a (Refused k) = perform (editAt a f t) t ≡ stop k
+  Stepped f t a (Refused k) = Unless (length work) k (perform (editAt a f t) t ≡ stop k)
   Stepped f t a Other = Unit {0}
 
   put-stepped : (f : ℕ) (t : Fields) (a : Action) (b : Bytes) → editAt a f t ≡ put f b → left ≡ pick (within b (length work)) (b ++ drop (length b) work) work
@@ -89,13 +90,13 @@ module _ (work left : Bytes) (room : maxTuple ≤ length work) where
       go : (x : Bool) → leb (length b) maxTuple ≡ x → (y : Bool) → leb (length b) (length work) ≡ y → left ≡ pick (x && y) (b ++ drop (length b) work) work
           → Stepped f t a (pick (x && y) (Is (length b)) (Refused TooLarge))
       go true p true q j = (rw (j, length-append) (omega arith), i ∙ ap (put f) (sym (take-at b (drop (length b) work) (length b) refl) ∙ ap (take (length b)) (sym j)))
-      go true p false q j = let k = leb-true (length b) maxTuple p in let m = leb-false (length b) (length work) q in absurd (omega arith)
-      go false p y q j = rw i (too-large f b t (leb-false _ _ p))
+      go true p false q j = let k = leb-true (length b) maxTuple p in let m = leb-false (length b) (length work) q in inr (refl, omega arith)
+      go false p y q j = inl (rw i (too-large f b t (leb-false _ _ p)))
 
   stepped : (f : ℕ) (t : Fields) (a : Action) (o : Option Edit) → Moves f t a o → left ≡ workBy o work → Stepped f t a (alteredBy o work)
   unfolding perform
   stepped f t a none m j = tt
-  stepped f t a (some (refuse k)) m j = rw m
+  stepped f t a (some (refuse k)) m j = inl (rw m)
   stepped f t a (some (put g b)) m j = put-stepped f t a b m j
   stepped f t a (some (add g b)) m j = tt
   stepped f t a (some (cut g n)) m j = tt
@@ -107,5 +108,5 @@ module _ (work left : Bytes) (room : maxTuple ≤ length work) where
     pub altered-is : {n : ℕ} → r ≡ Is n → (n ≤ length left) × (editAt a f t ≡ put f (take n left))
     altered-is q = told q
 
-    pub altered-refused : {k : Refusal} → r ≡ Refused k → perform (editAt a f t) t ≡ stop k
+    pub altered-refused : {k : Refusal} → r ≡ Refused k → Unless (length work) k (perform (editAt a f t) t ≡ stop k)
     altered-refused q = told q

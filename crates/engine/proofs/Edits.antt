@@ -8,7 +8,7 @@ use borrow.Author.Tests.{le-leb, lt-leb, leb-true}
 use lib.Dec.{leb}
 use lib.ListN.{length, take, drop, length-append, length-drop}
 use lib.Seq.{length-take-le, take-take, take-all}
-use Rattle.first_bytes.specs.Bytes.{Bytes}
+use Rattle.first_bytes.specs.Bytes.{Bytes, pick}
 use Rattle.values.specs.Pieces.{joined}
 use Rattle.writing.specs.Forms.{arrayHeader}
 use Rattle.tuples.specs.Limits.{maxFields, maxTuple}
@@ -97,6 +97,24 @@ module _ (f g : ℕ) (xs : Fields) (s : Bytes) (l : List ℕ) (n : ℕ) where
   pub as-limited : Held s l n → f + g ≤ n → limitedTo (length s) (spliced f g xs (fieldsIn s l n)) ≡ edit f g xs s l n
   unfolding edit
   as-limited h k = rw (held-in s l n h, le-leb _ _ k)
+
+-- what goes on is within the limits, and has room
+pub edit-next : (f g : ℕ) (xs : Fields) (s : Bytes) (l : List ℕ) (n : ℕ) (u : Fields) → edit f g xs s l n ≡ next u → (fits u ≡ true) × (length (joined u) ≤ length s)
+unfolding edit limitedTo
+edit-next f g xs s l n u h = by-held (heldIn (length s) l n) h
+  where
+    by-both : (t : Fields) (x : Bool) → fits t ≡ x → (y : Bool) → leb (length (joined t)) (length s) ≡ y → pick (x && y) (next t) (stop TooLarge) ≡ next u → (fits u ≡ true) × (length (joined u) ≤ length s)
+    by-both t true p true q h = let e : u ≡ t = cc in rw e (p, leb-true _ _ q)
+    by-both t true p false q h = absurd (let z : _≡_ {A = ℕ} 0 1 = cc in omega arith)
+    by-both t false p y q h = absurd (let z : _≡_ {A = ℕ} 0 1 = cc in omega arith)
+
+    by-part : (b : Bool) (t : Fields) → pick b (pick (fits t && leb (length (joined t)) (length s)) (next t) (stop TooLarge)) (stop NoField) ≡ next u → (fits u ≡ true) × (length (joined u) ≤ length s)
+    by-part true t h = by-both t (fits t) refl (leb (length (joined t)) (length s)) refl h
+    by-part false t h = absurd (let z : _≡_ {A = ℕ} 0 1 = cc in omega arith)
+
+    by-held : (b : Bool) → pick b (pick (leb (f + g) n) (pick (fits (spliced f g xs (fieldsIn s l n)) && leb (length (joined (spliced f g xs (fieldsIn s l n)))) (length s)) (next (spliced f g xs (fieldsIn s l n))) (stop TooLarge)) (stop NoField)) (stop TooLarge) ≡ next u → (fits u ≡ true) × (length (joined u) ≤ length s)
+    by-held true h = by-part (leb (f + g) n) (spliced f g xs (fieldsIn s l n)) h
+    by-held false h = absurd (let z : _≡_ {A = ℕ} 0 1 = cc in omega arith)
 
 pub stopped : {k : Refusal} {s : Bytes} {l : List ℕ} {to : Step} → stop k ≡ to → Left (Stop k) s l s l to
 stopped e = rw (← e) (record { answer = refl; bytes = refl; table = refl })

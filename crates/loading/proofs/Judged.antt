@@ -25,7 +25,7 @@ use Rattle.writing.proofs.Put.{Wrote, wrote}
 use Rattle.tuples.specs.Limits.{maxFields, maxTuple, fieldDepth}
 use Rattle.tuples.specs.Tuple.{Fields, filling, values, fieldsBy, fieldsOf}
 use Rattle.engine.specs.Held.{lengthsOf, over}
-use Rattle.loading.specs.Loading.{measuredBy, measured, Laid}
+use Rattle.loading.specs.Loading.{measuredBy, measured, loadable, measuredIn, Laid}
 use Rattle.loading.specs.declared.Loaded.{Loaded}
 use Rattle.loading.specs.declared.Loaded.the-variants.{Bad, Fields as Count}
 use Rattle.loading.proofs.Measures.{whole-at}
@@ -102,6 +102,15 @@ module _ (t : Bytes) {s : Bytes} {l : List ℕ} where
           → Laid r s' l' s l (values n (drop e t)) (pieces (value fieldDepth) n (drop e t)) → Laid r s' l' s l (fieldsOf t) (measured t)
       unfolding fieldsOf fieldsBy measured measuredBy
       as-values k d = rw (le-leb (length t) maxTuple h, q, le-leb n maxFields k) d
+
+  -- the array's room
+  pub no-room : length s < length t → Laid Bad s l s l (loadable (length s) t) (measuredIn (length s) t)
+  unfolding loadable measuredIn
+  no-room h = rw (lt-leb (length t) (length s) h) (refused refl (over-none l))
+
+  pub in-room : length t ≤ length s → {r : Loaded} {s' : Bytes} {l' : List ℕ} → Laid r s' l' s l (fieldsOf t) (measured t) → Laid r s' l' s l (loadable (length s) t) (measuredIn (length s) t)
+  unfolding loadable measuredIn
+  in-room h d = rw (le-leb (length t) (length s) h) d
 
 -- what the header's reader says, from the first byte on
 pub header-is : (r : Header) {n e : ℕ} → Is n e ≡ shiftHeader 0 r → r ≡ Is n e

@@ -13,7 +13,7 @@ use Rattle.scalars.specs.Header.{header}
 use Rattle.scalars.specs.declared.Header.{Header}
 use Rattle.scalars.specs.declared.Header.the-variants.{Is, Other}
 use Rattle.tuples.specs.Limits.{maxFields, maxTuple, fieldDepth}
-use Rattle.tuples.specs.Tuple.{Fields}
+use Rattle.tuples.specs.Tuple.{Fields, fieldsOf}
 use Rattle.engine.specs.Held.{lengthsOf, over}
 use Rattle.loading.specs.declared.Loaded.{Loaded}
 use Rattle.loading.specs.declared.Loaded.the-variants.{Bad, Fields as Count}
@@ -25,6 +25,13 @@ measuredBy Other t = []
 -- the values of the tuple's array, as far as they are whole: all of its fields where it has any
 unfoldable pub measured : Bytes → Fields
 measured t = pick (leb (length t) maxTuple) (measuredBy (header arrayBy t) t) []
+
+-- the same of a tuple that has room in an array
+unfoldable pub loadable : ℕ → Bytes → Option Fields
+loadable room t = pick (leb (length t) room) (fieldsOf t) none
+
+unfoldable pub measuredIn : ℕ → Bytes → Fields
+measuredIn room t = pick (leb (length t) room) (measured t) []
 
 abbrev pub answerBy : Option Fields → Loaded
 answerBy none = Bad
@@ -45,5 +52,5 @@ pub record Arrays (tuple : Bytes) (at n : ℕ) (scratch : Bytes) (lengths : List
   pub place : at ≤ length tuple
   pub short : length tuple ≤ maxTuple
   pub few : n ≤ maxFields
-  pub room : length scratch ≡ maxTuple
+  pub room : length tuple ≤ length scratch
   pub rows : length lengths ≡ maxFields

@@ -11,9 +11,9 @@ ghost use lib.ListN.{length, drop};
 ghost use Rattle.values.specs.Value.{shift, value, items};
 ghost use Rattle.values.specs.Pieces.{pieces};
 ghost use Rattle.tuples.specs.Limits.{fieldDepth, maxTuple};
-ghost use Rattle.tuples.specs.Tuple.{values, fieldsOf};
+ghost use Rattle.tuples.specs.Tuple.{values};
 ghost use Rattle.engine.specs.Held.{lengthsOf, over};
-ghost use Rattle.loading.specs.Loading.{measured, Laid, Arrays};
+ghost use Rattle.loading.specs.Loading.{loadable, measuredIn, Laid, Arrays};
 
 // So many fields; or the tuple is outside the rules, refusal 11.
 pub enum Loaded {
@@ -61,10 +61,14 @@ fn lay(tuple: &[u8], at: usize, n: usize, scratch: &mut [u8], lengths: &mut [u16
     Loaded::Fields(n)
 }
 
-pub fn load(tuple: &[u8], scratch: &mut [u8; MAX_TUPLE], lengths: &mut [u16; MAX_FIELDS]) -> Loaded
+// The tuple's fields, where the scratch array has room for the tuple.
+pub fn load(tuple: &[u8], scratch: &mut [u8], lengths: &mut [u16; MAX_FIELDS]) -> Loaded
     ensures { λ r. ⌜ Laid r (now (scratch .exit)) (now (lengths .exit)) (now (scratch .entry)) (now (lengths .entry))
-        (fieldsOf (now (tuple .entry))) (measured (now (tuple .entry))) ⌝ }
+        (loadable (length (now (scratch .entry))) (now (tuple .entry))) (measuredIn (length (now (scratch .entry))) (now (tuple .entry))) ⌝ }
 {
+    if scratch.len() < tuple.len() {
+        return Loaded::Bad;
+    }
     if MAX_TUPLE < tuple.len() {
         return Loaded::Bad;
     }

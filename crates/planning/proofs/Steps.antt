@@ -1,38 +1,40 @@
 -- A plan is the definition's own step on the fields that are held. Assumes nothing.
 use mathlib.Core.Path.{_≡_, refl, sym, subst, ap, _∙_}
-use mathlib.Core.Bool.{Bool, true, false}
+use mathlib.Core.Bool.{Bool, true, false, _&&_}
 use mathlib.Core.List.{List, [], _∷_}
-use mathlib.Core.Logic.{⊎-elim}
+use mathlib.Core.Logic.{_⊎_, inl, inr, ⊎-elim}
 use mathlib.Core.Option.{Option, none, some}
-use Prim.Native.Nat.{ℕ, zero, suc, _-_, _<_, _≤_}
+use Prim.Native.Nat.{ℕ, zero, suc, _+_, _-_, _<_, _≤_}
 use native.Mathlib.Nat.{min-le-right, sub-zero}
 use native.Mathlib.Omega.{arith}
-use borrow.Author.Tests.{lt-ltb, le-ltb, le-leb, lt-leb, eqb-true}
-use lib.Dec.{eqb}
+use borrow.Author.Tests.{lt-ltb, le-ltb, le-leb, lt-leb, leb-true, leb-false, eqb-true}
+use lib.Dec.{leb, eqb}
 use lib.ListN.{length, getD}
 use Rattle.first_bytes.specs.Bytes.{Bytes, pick}
 use Rattle.scalars.specs.declared.Int.{Int}
 use Rattle.scalars.specs.declared.Int.the-variants.{FromZero, BelowZero}
 use Rattle.writing.proofs.Choice.{by-leb, by-ltb, either}
-use Rattle.tuples.specs.Limits.{maxTuple}
+use Rattle.values.specs.Pieces.{joined}
+use Rattle.tuples.specs.Limits.{maxFields, maxTuple}
 use Rattle.tuples.specs.Tuple.{Fields}
 use Rattle.tuples.specs.Decoding.{Got, fails, gets, Decoder, less}
 use Rattle.tuples.specs.Operation.{plus, minus, and, xor, or, assign, insert, remove, splice}
 use Rattle.tuples.specs.Operation as Law
-use Rattle.tuples.specs.Edit.{Edit, refuse, put, add, cut, became, suited, altered, editAt, fieldAt, planOf, Step, stop, next, perform}
+use Rattle.tuples.specs.Edit.{Edit, refuse, put, add, cut, became, suited, altered, editAt, fieldAt, planOf, Step, stop, next, spliced, fits, limited, perform}
 use Rattle.tuples.specs.declared.Refusal.{Refusal}
 use Rattle.tuples.specs.declared.Refusal.the-variants.{NoField, TooLarge}
-use Rattle.tuples.proofs.Legal.{Fits, limited-next, plain-length}
-use Rattle.engine.specs.Held.{fieldsIn, Fit, answerOf, scratchOf, tableOf, Left}
+use Rattle.tuples.proofs.Cases.{both-hold}
+use Rattle.tuples.proofs.Legal.{Fits, plain-length}
+use Rattle.engine.specs.Held.{fieldsIn, limitedTo, edit, Fit, answerOf, scratchOf, tableOf, Left}
 use Rattle.engine.specs.declared.Edited.{Edited}
 use Rattle.engine.specs.declared.Edited.the-variants.{Stop, Next}
-use Rattle.engine.proofs.Edits.{as-limited}
-use Rattle.engine.proofs.Fits.{holding, field-count, field-is, held-over, fit-over}
+use Rattle.engine.proofs.Edits.{as-limited, edit-next}
+use Rattle.engine.proofs.Fits.{holding-in, field-count, field-is, held-over, fit-over}
 use Rattle.parts.specs.Part.{part, fieldBy}
 use Rattle.operations.specs.Found.{actionIn}
 use Rattle.operations.specs.declared.Action.{Action}
 use Rattle.operations.specs.declared.Action.the-variants.{Plus, Minus, And, Xor, Or, Assign, Insert, Remove, Splice, Bad}
-use Rattle.computing.specs.Altering.{within, alteredBy, workBy, Alters}
+use Rattle.computing.specs.Altering.{within, Unless, alteredBy, workBy, Alters}
 use Rattle.computing.specs.declared.Altered.{Altered}
 use Rattle.computing.specs.declared.Altered.the-variants.{Is, Refused, Other}
 use Rattle.altering.specs.Edits.{editOf}
@@ -46,41 +48,41 @@ never e = absurd (omega arith)
 
 -- ---- what a plan means for an edit of the fields t
 
-module _ (t : Fields) (list work : Bytes) where
-  refused : (k : Refusal) {e : Edit} → e ≡ refuse k → Means t list work (Refuse k) e
+module _ (room : ℕ) (t : Fields) (list work : Bytes) where
+  refused : (k : Refusal) {e : Edit} → e ≡ refuse k → Means room t list work (Refuse k) e
   unfolding perform
-  refused k q = rw q
+  refused k q = inl (rw q)
 
   -- `=`, `!` and `#`
   module _ (f : ℕ) where
-    assign-means : (a b : ℕ) → Means t list work (wholly (Assign a b) f (length t)) (editAt (assign (part a b list)) f t)
+    assign-means : (a b : ℕ) → Means room t list work (wholly (Assign a b) f (length t)) (editAt (assign (part a b list)) f t)
     unfolding editAt
     assign-means a b =
-        by-ltb (λ (r : Planned). Means t list work r (editAt (assign (part a b list)) f t)) f (length t)
+        by-ltb (λ (r : Planned). Means room t list work r (editAt (assign (part a b list)) f t)) f (length t)
         (λ h. (rw (lt-ltb f (length t) h), (omega arith, omega arith)))
         (λ h. go (eqb f (length t)) refl h)
       where
         go : (c : Bool) → eqb f (length t) ≡ c → length t ≤ f
-            → Means t list work (pick c (Bring f 0 a b) (Refuse NoField)) (pick {A = Edit} (lib.Dec.ltb f (length t)) (put f (part a b list)) (pick (eqb f (length t)) (add f (part a b list)) (refuse NoField)))
+            → Means room t list work (pick c (Bring f 0 a b) (Refuse NoField)) (pick {A = Edit} (lib.Dec.ltb f (length t)) (put f (part a b list)) (pick (eqb f (length t)) (add f (part a b list)) (refuse NoField)))
         go true q h = let e = eqb-true f (length t) q in (rw (le-ltb f (length t) h, q), (omega arith, omega arith))
         go false q h = refused NoField (rw (le-ltb f (length t) h, q))
 
-    insert-means : (a b : ℕ) → Means t list work (wholly (Insert a b) f (length t)) (editAt (insert (part a b list)) f t)
+    insert-means : (a b : ℕ) → Means room t list work (wholly (Insert a b) f (length t)) (editAt (insert (part a b list)) f t)
     unfolding editAt
     insert-means a b =
-        by-leb (λ (r : Planned). Means t list work r (editAt (insert (part a b list)) f t)) f (length t)
+        by-leb (λ (r : Planned). Means room t list work r (editAt (insert (part a b list)) f t)) f (length t)
         (λ h. (rw (le-leb f (length t) h), (omega arith, omega arith)))
         (λ h. refused NoField (rw (lt-leb f (length t) h)))
 
-    remove-means : (m e : ℕ) → Means t list work (wholly (Remove m e) f (length t)) (editAt (remove m) f t)
+    remove-means : (m e : ℕ) → Means room t list work (wholly (Remove m e) f (length t)) (editAt (remove m) f t)
     unfolding editAt
     remove-means m e =
-        by-ltb (λ (r : Planned). Means t list work r (editAt (remove m) f t)) f (length t)
+        by-ltb (λ (r : Planned). Means room t list work r (editAt (remove m) f t)) f (length t)
         (λ h. (rw (lt-ltb f (length t) h), let k = min-le-right m (length t - f) in omega arith))
         (λ h. refused NoField (rw (le-ltb f (length t) h)))
 
     -- the others, where there is no field f
-    absent : {A : Type 0} (read : Decoder A) (change : A → Option Bytes) → length t ≤ f → Means t list work (Refuse NoField) (altered read change f t)
+    absent : {A : Type 0} (read : Decoder A) (change : A → Option Bytes) → length t ≤ f → Means room t list work (Refuse NoField) (altered read change f t)
     unfolding altered
     absent read change h = refused NoField (rw (le-ltb f (length t) h))
 
@@ -95,11 +97,11 @@ module _ (t : Fields) (list work : Bytes) where
     Apart (or v) = length t ≤ f
     Apart (splice p k b) = length t ≤ f
 
-    whole-means : (x : Action) (a : Law.Action) (s : Bytes) → actionIn list x ≡ gets a s → Apart a → Means t list work (wholly x f (length t)) (editAt a f t)
+    whole-means : (x : Action) (a : Law.Action) (s : Bytes) → actionIn list x ≡ gets a s → Apart a → Means room t list work (wholly x f (length t)) (editAt a f t)
     unfolding editAt
-    whole-means (Assign b e) a s q h = let w : assign (part b e list) ≡ a = cc in subst (λ (a : Law.Action). Means t list work (wholly (Assign b e) f (length t)) (editAt a f t)) w (assign-means b e)
-    whole-means (Insert b e) a s q h = let w : insert (part b e list) ≡ a = cc in subst (λ (a : Law.Action). Means t list work (wholly (Insert b e) f (length t)) (editAt a f t)) w (insert-means b e)
-    whole-means (Remove m e) a s q h = let w : remove m ≡ a = cc in subst (λ (a : Law.Action). Means t list work (wholly (Remove m e) f (length t)) (editAt a f t)) w (remove-means m e)
+    whole-means (Assign b e) a s q h = let w : assign (part b e list) ≡ a = cc in subst (λ (a : Law.Action). Means room t list work (wholly (Assign b e) f (length t)) (editAt a f t)) w (assign-means b e)
+    whole-means (Insert b e) a s q h = let w : insert (part b e list) ≡ a = cc in subst (λ (a : Law.Action). Means room t list work (wholly (Insert b e) f (length t)) (editAt a f t)) w (insert-means b e)
+    whole-means (Remove m e) a s q h = let w : remove m ≡ a = cc in subst (λ (a : Law.Action). Means room t list work (wholly (Remove m e) f (length t)) (editAt a f t)) w (remove-means m e)
     whole-means (Plus v e) a s q h = let w : a ≡ plus v = cc in rw w (absent _ _ (rw w at h))
     whole-means (Minus v e) a s q h = let w : a ≡ minus v = cc in rw w (absent _ _ (rw w at h))
     whole-means (And v e) a s q h = let w : a ≡ and v = cc in rw w (absent _ _ (rw w at h))
@@ -126,35 +128,39 @@ no-other read change b work q = by-read (read b) q
     by-read fails q = never (cc)
     by-read (gets a s) q = by-change (change a) q
 
-apart : (t : Fields) (list left : Bytes) (f : ℕ) (a : Law.Action) (s b work : Bytes) → alteredBy (editOf (gets a s) b) work ≡ Other → Apart t list left f a
+apart : (room : ℕ) (t : Fields) (list left : Bytes) (f : ℕ) (a : Law.Action) (s b work : Bytes) → alteredBy (editOf (gets a s) b) work ≡ Other → Apart room t list left f a
 unfolding editAt
-apart t list left f (plus v) s b work q = absurd (no-other _ _ b work q)
-apart t list left f (minus v) s b work q = absurd (no-other _ _ b work q)
-apart t list left f (and v) s b work q = absurd (no-other _ _ b work q)
-apart t list left f (xor v) s b work q = absurd (no-other _ _ b work q)
-apart t list left f (or v) s b work q = absurd (no-other _ _ b work q)
-apart t list left f (assign x) s b work q = tt
-apart t list left f (insert x) s b work q = tt
-apart t list left f (remove m) s b work q = tt
-apart t list left f (splice p k x) s b work q = absurd (no-other _ _ b work q)
+apart room t list left f (plus v) s b work q = absurd (no-other _ _ b work q)
+apart room t list left f (minus v) s b work q = absurd (no-other _ _ b work q)
+apart room t list left f (and v) s b work q = absurd (no-other _ _ b work q)
+apart room t list left f (xor v) s b work q = absurd (no-other _ _ b work q)
+apart room t list left f (or v) s b work q = absurd (no-other _ _ b work q)
+apart room t list left f (assign x) s b work q = tt
+apart room t list left f (insert x) s b work q = tt
+apart room t list left f (remove m) s b work q = tt
+apart room t list left f (splice p k x) s b work q = absurd (no-other _ _ b work q)
 
 -- past the fields
-past : (t : Fields) (list left : Bytes) (f : ℕ) (a : Law.Action) → length t ≤ f → Apart t list left f a
-past t list left f (plus v) h = h
-past t list left f (minus v) h = h
-past t list left f (and v) h = h
-past t list left f (xor v) h = h
-past t list left f (or v) h = h
-past t list left f (assign x) h = tt
-past t list left f (insert x) h = tt
-past t list left f (remove m) h = tt
-past t list left f (splice p k x) h = h
+past : (room : ℕ) (t : Fields) (list left : Bytes) (f : ℕ) (a : Law.Action) → length t ≤ f → Apart room t list left f a
+past room t list left f (plus v) h = h
+past room t list left f (minus v) h = h
+past room t list left f (and v) h = h
+past room t list left f (xor v) h = h
+past room t list left f (or v) h = h
+past room t list left f (assign x) h = tt
+past room t list left f (insert x) h = tt
+past room t list left f (remove m) h = tt
+past room t list left f (splice p k x) h = h
 
 -- ---- an operation on the fields that are held
 
-module _ {s : Bytes} {l : List ℕ} {n : ℕ} (fit : Fit s l n) (list work : Bytes) (room : maxTuple ≤ length work) where
+module _ {s : Bytes} {l : List ℕ} {n : ℕ} (fit : Fit s l n) (list work : Bytes) {room : ℕ} (enough : room ≤ length work) where
   abbrev fields : Fields
   fields = fieldsIn s l n
+
+  certain : {k : Refusal} {A : Type 0} → Unless (length work) k A → Unless room k A
+  certain (inl x) = inl x
+  certain (inr x) = inr (x .0, omega (arith, x .1))
 
   -- the action x of the list is a
   module _ (x : Action) (a : Law.Action) (rest : Bytes) (q : actionIn list x ≡ gets a rest) where
@@ -173,54 +179,94 @@ module _ {s : Bytes} {l : List ℕ} {n : ℕ} (fit : Fit s l n) (list work : Byt
       told w = (ap (λ (o : Option Edit). alteredBy o work) known, w ∙ ap (λ (o : Option Edit). workBy o work) known)
 
       by-answer : (k : Altered) → alteredBy (alone x f list s l) work ≡ k → (left : Bytes) → left ≡ workBy (alone x f list s l) work
-          → Means fields list left (orElse f k (wholly x f n)) (editAt a f fields)
+          → Means room fields list left (orElse f k (wholly x f n)) (editAt a f fields)
       by-answer (Is k) e left w =
-          let g = altered-is work left room f fields inside a rest (told w) e in
+          let g = altered-is work left f fields inside a rest (told w) e in
           (g .1 ∙ rw sub-zero, inside)
-      by-answer (Refused k) e left w = altered-refused work left room f fields inside a rest (told w) e
+      by-answer (Refused k) e left w = certain (altered-refused work left f fields inside a rest (told w) e)
       by-answer Other e left w =
-          subst (λ (m : ℕ). Means fields list left (wholly x f m) (editAt a f fields)) (field-count fit)
-          (whole-means fields list left f x a rest q (apart fields list left f a rest (getD fields f []) work (sym (told w .0) ∙ e)))
+          subst (λ (m : ℕ). Means room fields list left (wholly x f m) (editAt a f fields)) (field-count fit)
+          (whole-means room fields list left f x a rest q (apart room fields list left f a rest (getD fields f []) work (sym (told w .0) ∙ e)))
 
-    at-means : (f : ℕ) (left : Bytes) → left ≡ workAt f x list s l n work → Means fields list left (plannedAt f x list s l n work) (editAt a f fields)
+    at-means : (f : ℕ) (left : Bytes) → left ≡ workAt f x list s l n work → Means room fields list left (plannedAt f x list s l n work) (editAt a f fields)
     unfolding plannedAt workAt
     at-means f left w =
         ⊎-elim
         (λ h. rw (le-leb n f h)
-        (subst (λ (m : ℕ). Means fields list left (wholly x f m) (editAt a f fields)) (field-count fit)
-        (whole-means fields list left f x a rest q (past fields list left f a (rw (field-count fit) h)))))
+        (subst (λ (m : ℕ). Means room fields list left (wholly x f m) (editAt a f fields)) (field-count fit)
+        (whole-means room fields list left f x a rest q (past room fields list left f a (rw (field-count fit) h)))))
         (λ h. rw (lt-leb n f h) (by-answer f h (alteredBy (alone x f list s l) work) refl left (w ∙ rw (lt-leb n f h))))
         (either n f)
 
     -- THE law of a plan: by the field number z as it was sent
     pub plan-means : (base : ℕ) (z : Int) (left : Bytes) → left ≡ workAfter (fieldBy (less base z)) x list s l n work
-        → Means fields list left (planned (fieldBy (less base z)) x list s l n work) (planOf (record { number = less base z; action = a }) fields)
+        → Means room fields list left (planned (fieldBy (less base z)) x list s l n work) (planOf (record { number = less base z; action = a }) fields)
     unfolding planOf fieldAt
     plan-means base z left w = go (less base z) w
       where
         go : (y : Int) → left ≡ workAfter (fieldBy y) x list s l n work
-            → Means fields list left (planned (fieldBy y) x list s l n work) (fieldAt y (λ f. editAt a f fields))
+            → Means room fields list left (planned (fieldBy y) x list s l n work) (fieldAt y (λ f. editAt a f fields))
         go (FromZero f) w = at-means f left w
-        go (BelowZero m) w = refused fields list left NoField refl
+        go (BelowZero m) w = refused room fields list left NoField refl
 
-  -- and of its performance
-  pub perform-means : (r : Planned) (left : Bytes) (e : Edit) → Means fields list left r e → performed r list left s l n ≡ perform e fields
+is-fit : (t : Fields) → fits t ≡ true → Fits t
+unfolding fits
+is-fit t e = let h = both-hold (leb (length t) maxFields) _ e in record { few = leb-true _ _ (h .0); short = leb-true _ _ (h .1) }
+
+-- and of its performance: with the scratch array's room
+module _ {s : Bytes} {l : List ℕ} {n : ℕ} (fit : Fit s l n) (list left : Bytes) where
+  -- the definition's limit and the array's
+  abbrev Near : Step → Step → Type 0
+  Near a b = (a ≡ b) ⊎ ((a ≡ stop TooLarge) × (length s < maxTuple))
+
+  near : (t : Fields) → Near (limitedTo (length s) t) (limited t)
+  unfolding limitedTo limited
+  near t = go (fits t) refl (leb (length (joined t)) (length s)) refl
+    where
+      go : (x : Bool) → fits t ≡ x → (y : Bool) → leb (length (joined t)) (length s) ≡ y → Near (pick (x && y) (next t) (stop TooLarge)) (pick x (next t) (stop TooLarge))
+      go true p true q = inl refl
+      go true p false q = let k = is-fit t p .short in let i = plain-length t in let m = leb-false (length (joined t)) (length s) q in inr (refl, omega arith)
+      go false p y q = inl refl
+
+  nearly : (f g : ℕ) (xs : Fields) → f + g ≤ n → Near (edit f g xs s l n) (limited (spliced f g xs (fieldsIn s l n)))
+  nearly f g xs h = rw (← as-limited f g xs s l n (holding-in fit) h) (near (spliced f g xs (fieldsIn s l n)))
+
+  pub perform-means : (r : Planned) (e : Edit) → Means (length s) (fieldsIn s l n) list left r e → Near (performed r list left s l n) (perform e (fieldsIn s l n))
   unfolding perform
-  perform-means (Refuse k) left e m = sym m
-  perform-means (Alter f k) left e m = rw (m .0) (sym (as-limited f 1 (part 0 k left ∷ []) s l n (holding fit) (let h = m .1 in let c = field-count fit in omega arith)))
-  perform-means (Bring f zero a b) left e m = rw (m .0) (sym (as-limited f 0 (part a b list ∷ []) s l n (holding fit) (rw (field-count fit) at (m .1 .1))))
-  perform-means (Bring f (suc zero) a b) left e m = rw (m .0) (sym (as-limited f 1 (part a b list ∷ []) s l n (holding fit) (rw (field-count fit) at (m .1 .1))))
-  perform-means (Bring f (suc (suc g)) a b) left e m = absurd (let h = m .1 .0 in omega arith)
-  perform-means (Cut f k) left e m = rw (m .0) (sym (as-limited f k [] s l n (holding fit) (rw (field-count fit) at (m .1))))
+  perform-means (Refuse k) e (inl m) = inl (sym m)
+  perform-means (Refuse k) e (inr m) = inr (ap stop (m .0), m .1)
+  perform-means (Alter f k) e m = rw (m .0) (nearly f 1 (part 0 k left ∷ []) (let h = m .1 in let c = field-count fit in omega arith))
+  perform-means (Bring f zero a b) e m = rw (m .0) (nearly f 0 (part a b list ∷ []) (rw (field-count fit) at (m .1 .1)))
+  perform-means (Bring f (suc zero) a b) e m = rw (m .0) (nearly f 1 (part a b list ∷ []) (rw (field-count fit) at (m .1 .1)))
+  perform-means (Bring f (suc (suc g)) a b) e m = absurd (let h = m .1 .0 in omega arith)
+  perform-means (Cut f k) e m = rw (m .0) (nearly f k [] (rw (field-count fit) at (m .1)))
+
+  module _ (r : Planned) (e : Edit) (m : Means (length s) (fieldsIn s l n) list left r e) where
+    pub performed-next : {u : Fields} → performed r list left s l n ≡ next u → perform e (fieldsIn s l n) ≡ next u
+    performed-next {u} q = go (perform-means r e m)
+      where
+        go : Near (performed r list left s l n) (perform e (fieldsIn s l n)) → perform e (fieldsIn s l n) ≡ next u
+        go (inl x) = sym x ∙ q
+        go (inr x) = never (let y = x .0 in cc)
+
+    pub performed-stop : {k : Refusal} → performed r list left s l n ≡ stop k → Unless (length s) k (perform e (fieldsIn s l n) ≡ stop k)
+    performed-stop {k} q = go (perform-means r e m)
+      where
+        go : Near (performed r list left s l n) (perform e (fieldsIn s l n)) → Unless (length s) k (perform e (fieldsIn s l n) ≡ stop k)
+        go (inl x) = inl (sym x ∙ q)
+        go (inr x) = let y = x .0 in let z : k ≡ TooLarge = cc in inr (z, x .1)
+
+  -- what goes on is within the limits, and has room
+  pub performed-fits : (r : Planned) (u : Fields) → performed r list left s l n ≡ next u → Fits u × (length (joined u) ≤ length s)
+  performed-fits r u q = let h = go r q in (is-fit u (h .0), h .1)
+    where
+      go : (r : Planned) → performed r list left s l n ≡ next u → (fits u ≡ true) × (length (joined u) ≤ length s)
+      go (Refuse k) q = never (cc)
+      go (Alter f k) q = edit-next f 1 (part 0 k left ∷ []) s l n u q
+      go (Bring f g a b) q = edit-next f g (part a b list ∷ []) s l n u q
+      go (Cut f k) q = edit-next f k [] s l n u q
 
 -- ---- what a step left
-
-perform-next : (e : Edit) (t u : Fields) → perform e t ≡ next u → Fits u
-unfolding perform
-perform-next (refuse k) t u h = never (cc)
-perform-next (put f b) t u h = limited-next _ u h .1
-perform-next (add f b) t u h = limited-next _ u h .1
-perform-next (cut f m) t u h = limited-next _ u h .1
 
 module _ {s s' : Bytes} {l l' : List ℕ} {r : Edited} {to : Step} (w : Left r s' l' s l to) where
   pub left-stop : {k : Refusal} → r ≡ Stop k → to ≡ stop k
@@ -230,13 +276,14 @@ module _ {s s' : Bytes} {l l' : List ℕ} {r : Edited} {to : Step} (w : Left r s
       go (stop j) e = let x : j ≡ k = cc in ap stop x
       go (next t) e = never (cc)
 
-  pub left-next : {m n : ℕ} → r ≡ Next m → Fit s l n → (e : Edit) (t : Fields) → to ≡ perform e t → (to ≡ next (fieldsIn s' l' m)) × Fit s' l' m
-  left-next {m} {n} q fit e t p = go to (sym q ∙ w .answer) (w .bytes) (w .table) p
+  pub left-next : {m n : ℕ} → r ≡ Next m → Fit s l n → ((u : Fields) → to ≡ next u → Fits u × (length (joined u) ≤ length s)) → (to ≡ next (fieldsIn s' l' m)) × Fit s' l' m
+  left-next {m} {n} q fit ok = go to refl (sym q ∙ w .answer) (w .bytes) (w .table)
     where
-      go : (to : Step) → Next m ≡ answerOf to → s' ≡ scratchOf to s → l' ≡ tableOf to l → to ≡ perform e t → (to ≡ next (fieldsIn s' l' m)) × Fit s' l' m
-      go (stop j) a b c p = never (cc)
-      go (next u) a b c p =
+      go : (x : Step) → to ≡ x → Next m ≡ answerOf x → s' ≡ scratchOf x s → l' ≡ tableOf x l → (to ≡ next (fieldsIn s' l' m)) × Fit s' l' m
+      go (stop j) p a b c = never (cc)
+      go (next u) p a b c =
           let x : m ≡ length u = cc in
-          let k = perform-next e t u (sym p) in
+          let k = ok u p in
           let i = plain-length u in
-          rw (b, c, x) (ap next (sym (held-over u s l)), fit-over u s l (k .few) (omega arith) (fit .room) (fit .rows))
+          let h = k .0 .short in
+          rw (b, c, x) (p ∙ ap next (sym (held-over u s l)), fit-over u s l (k .0 .few) (omega arith) (k .1) (fit .rows))

@@ -16,7 +16,7 @@ use Rattle.parts.specs.declared.Field.the-variants.{At, Below}
 use Rattle.operations.specs.Found.{actionIn}
 use Rattle.operations.specs.declared.Action.{Action}
 use Rattle.operations.specs.declared.Action.the-variants.{Plus, Minus, And, Xor, Or, Assign, Insert, Remove, Splice, Bad}
-use Rattle.computing.specs.Altering.{alteredBy, workBy}
+use Rattle.computing.specs.Altering.{Unless, alteredBy, workBy}
 use Rattle.computing.specs.declared.Altered.{Altered}
 use Rattle.computing.specs.declared.Altered.the-variants.{Is, Refused, Other}
 use Rattle.altering.specs.Edits.{editOf}
@@ -99,9 +99,9 @@ Among (Alter f k) n = f < n
 Among (Bring f gone a e) n = (gone ≤ 1) × (f + gone ≤ n)
 Among (Cut f m) n = f + m ≤ n
 
--- what a plan says of an edit of the fields t: it is refused with k, or it is the plan's own
-abbrev pub Means : Fields → Bytes → Bytes → Planned → Edit → Type 0
-Means t list work (Refuse k) e = perform e t ≡ stop k
-Means t list work (Alter f k) e = (e ≡ editIn (Alter f k) list work) × Among (Alter f k) (length t)
-Means t list work (Bring f gone a b) e = (e ≡ editIn (Bring f gone a b) list work) × Among (Bring f gone a b) (length t)
-Means t list work (Cut f m) e = (e ≡ editIn (Cut f m) list work) × Among (Cut f m) (length t)
+-- what a plan says of an edit of the fields t, in arrays of `room` bytes: it is refused with k, or it is the plan's own
+abbrev pub Means : ℕ → Fields → Bytes → Bytes → Planned → Edit → Type 0
+Means room t list work (Refuse k) e = Unless room k (perform e t ≡ stop k)
+Means room t list work (Alter f k) e = (e ≡ editIn (Alter f k) list work) × Among (Alter f k) (length t)
+Means room t list work (Bring f gone a b) e = (e ≡ editIn (Bring f gone a b) list work) × Among (Bring f gone a b) (length t)
+Means room t list work (Cut f m) e = (e ≡ editIn (Cut f m) list work) × Among (Cut f m) (length t)

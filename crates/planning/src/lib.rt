@@ -4,7 +4,6 @@ use engine::Edited;
 use operations::Action;
 use parts::Field;
 use tuples::MAX_FIELDS;
-use tuples::MAX_TUPLE;
 use tuples::Refusal;
 ghost use mathlib.Core.Path.{_≡_};
 ghost use Rattle.engine.specs.Held.{Left};
@@ -108,7 +107,7 @@ pub fn perform(
     plan: Planned,
     list: &[u8],
     work: &[u8],
-    scratch: &mut [u8; MAX_TUPLE],
+    scratch: &mut [u8],
     lengths: &mut [u16; MAX_FIELDS],
     n: usize,
 ) -> Edited

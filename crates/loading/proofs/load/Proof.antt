@@ -5,16 +5,19 @@ use Rattle.scalars.specs.Start.{arrayBy}
 use Rattle.scalars.specs.Header.{header}
 use Rattle.scalars.specs.declared.Header.the-variants.{Is}
 use Rattle.tuples.proofs.Tuple.{array-short}
-use Rattle.loading.proofs.Judged.{header-is, header-other, long-tuple, no-array, many-fields, as-values}
+use Rattle.loading.proofs.Judged.{header-is, header-other, long-tuple, no-array, many-fields, as-values, no-room, in-room}
 use borrow.Author.Needs.{needs}
 use Rattle.loading.proofs.load.Statement.{statement}
 use Rattle.loading.proofs.load.Tie as tie
 
-opened : (k : tie.After-known-told) → (let n = k .before .n in header arrayBy (k .before .before .before .before .before .before .args .tuple .now) ≡ Is (n .given .0 .0) (n .given .0 .1 .0))
+opened : (k : tie.After-known-told) → (let n = k .before .n in header arrayBy (k .before .before .before .before .before .before .before .before .args .tuple .now) ≡ Is (n .given .0 .0) (n .given .0 .1 .0))
 opened k = header-is _ (sym (k .before .n .given .1) ∙ k .before .before .before .header-at .ensures)
 
 returns : tie.Need-returns
-returns c = long-tuple (c .before .before .args .tuple .now) (c .if1 .taken)
+returns c = no-room (c .before .before .before .args .tuple .now) (c .if1 .taken)
+
+returns-2 : tie.Need-returns-2
+returns-2 c = let t = c .before .before .before .before .args .tuple .now in in-room t (c .before .if1 .left) (long-tuple t (c .if2 .taken))
 
 header-at-requires : tie.Need-header-at-requires
 header-at-requires c κs = search needs
@@ -25,27 +28,44 @@ enum-known-n c = search needs
 enum-told : tie.Need-enum-told
 enum-told c = search needs
 
-returns-2 : tie.Need-returns-2
-returns-2 c = no-array (c .before .before .before .before .before .args .tuple .now) (omega arith) (header-other _ (sym (c .enum-told .given .1) ∙ c .before .before .header-at .ensures))
-
 returns-3 : tie.Need-returns-3
-returns-3 c = many-fields (c .before .before .before .before .before .before .before .args .tuple .now) (omega arith) (opened (c .before)) (c .if2 .taken)
-
-lay-requires : tie.Need-lay-requires
-lay-requires c κs = let q = array-short _ _ _ (omega arith) (opened (c .before .before .before)) in record { place = q .1; short = omega arith; few = omega arith; room = search needs; rows = search needs }
+returns-3 c =
+    let g = c .before .before in
+    let t = g .before .before .before .before .before .args .tuple .now in
+    in-room t (g .before .before .if1 .left) (no-array t (g .before .if2 .left) (header-other _ (sym (c .enum-told .given .1) ∙ g .header-at .ensures)))
 
 returns-4 : tie.Need-returns-4
-returns-4 c = as-values (c .before .before .before .before .before .before .before .before .before .before .args .tuple .now) (omega arith) (opened (c .before .before .before .before)) (omega arith) (c .lay .ensures)
+returns-4 c =
+    let k = c .before in
+    let i = k .before .before .before .before in
+    let t = i .before .before .before .before .args .tuple .now in
+    in-room t (i .before .if1 .left) (many-fields t (i .if2 .left) (opened k) (c .if3 .taken))
+
+lay-requires : tie.Need-lay-requires
+lay-requires c κs = let q = array-short _ _ _ (omega arith) (opened (c .before .before .before)) in record { place = q .1; short = omega arith; few = omega arith; room = omega arith; rows = search needs }
+
+same-length : tie.Need-same-length
+same-length c = search needs
+
+returns-5 : tie.Need-returns-5
+returns-5 c =
+    let l = c .before .before in
+    let k = l .before .before .before .before in
+    let i = k .before .before .before .before in
+    let t = i .before .before .before .before .args .tuple .now in
+    in-room t (i .before .if1 .left) (as-values t (i .if2 .left) (opened k) (l .before .before .before .if3 .left) (l .lay .ensures))
 
 pub load-spec : {M : Type 1} → statement M
 load-spec =
     tie.close
     (tie.spec
     returns
+    returns-2
     header-at-requires
     enum-known-n
     enum-told
-    returns-2
     returns-3
+    returns-4
     lay-requires
-    returns-4)
+    same-length
+    returns-5)

@@ -43,24 +43,38 @@ cut-out-requires : tie.Need-cut-out-requires
 cut-out-requires c κs = search needs
 
 returns : tie.Need-returns
-returns c = stopped (step (c .before .before .before .before .before) (c .before .plan .given .1))
+returns c = stopped (step (c .before .before .before .before .before .before) (c .before .plan .given .1))
+
+same-length : tie.Need-same-length
+same-length c = search needs
 
 returns-2 : tie.Need-returns-2
 returns-2 c =
-    let k = c .before .before .before .before in
-    let o = k .before .before .before .before .before in
+    let p = c .before .before in
+    let k = p .before .before .before .before in
+    let o = k .before .before .before .before .before .before in
     let a = o .args in
-    left-as (ap (λ (p : Bytes). edit (k .before .plan2 .given .0 .0) 1 (p ∷ []) (a .scratch .now) (a .lengths .now) (a .n)) (c .before .bytes-of .ensures) ∙ step o (k .before .plan2 .given .1)) (c .put-in .ensures)
+    left-as (ap (λ (p : Bytes). edit (k .before .plan2 .given .0 .0) 1 (p ∷ []) (a .scratch .now) (a .lengths .now) (a .n)) (p .before .bytes-of .ensures) ∙ step o (k .before .plan2 .given .1)) (p .put-in .ensures)
+
+same-length-2 : tie.Need-same-length-2
+same-length-2 c = search needs
 
 returns-3 : tie.Need-returns-3
 returns-3 c =
-    let k = c .before .before .before .before in
-    let o = k .before .before .before .before .before in
+    let p = c .before .before in
+    let k = p .before .before .before .before in
+    let o = k .before .before .before .before .before .before in
     let a = o .args in
-    left-as (ap (λ (p : Bytes). edit (k .before .plan3 .given .0 .0) (k .before .plan3 .given .0 .1 .0) (p ∷ []) (a .scratch .now) (a .lengths .now) (a .n)) (c .before .bytes-of2 .ensures) ∙ step o (k .before .plan3 .given .1)) (c .put-in2 .ensures)
+    left-as (ap (λ (p : Bytes). edit (k .before .plan3 .given .0 .0) (k .before .plan3 .given .0 .1 .0) (p ∷ []) (a .scratch .now) (a .lengths .now) (a .n)) (p .before .bytes-of2 .ensures) ∙ step o (k .before .plan3 .given .1)) (p .put-in2 .ensures)
+
+same-length-3 : tie.Need-same-length-3
+same-length-3 c = search needs
 
 returns-4 : tie.Need-returns-4
-returns-4 c = let k = c .before .before .before in left-as (step (k .before .before .before .before .before) (k .before .plan4 .given .1)) (c .cut-out .ensures)
+returns-4 c =
+    let p = c .before .before in
+    let k = p .before .before .before in
+    left-as (step (k .before .before .before .before .before .before) (k .before .plan4 .given .1)) (p .cut-out .ensures)
 
 pub perform-spec : {M : Type 1} → statement M
 perform-spec =
@@ -76,6 +90,9 @@ perform-spec =
     enum-known-plan-4
     cut-out-requires
     returns
+    same-length
     returns-2
+    same-length-2
     returns-3
+    same-length-3
     returns-4)
