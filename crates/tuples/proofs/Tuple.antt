@@ -119,6 +119,20 @@ fields-legal t fs h =
         let c : length (arrayHeader (length fs)) ≡ length (arrayHeader n) = ap (λ (m : ℕ). length (arrayHeader m)) (f .count) in
         record { fit = record { few = rw (f .count) few; short = omega arith }; whole = f .whole }
 
+-- a tuple is within its limit, and its fields are no longer
+pub fields-short : (t : Bytes) (fs : Fields) → fieldsOf t ≡ some fs → (length t ≤ maxTuple) × (length (joined fs) ≤ length t)
+unfolding fieldsOf fieldsBy
+fields-short t fs h =
+    let (b, e) = guarded (leb (length t) maxTuple) (fieldsBy (header arrayBy t) t) fs h in
+    (leb-true _ _ b, go (header arrayBy t) e)
+  where
+    go : (g : Header) → fieldsBy g t ≡ some fs → length (joined fs) ≤ length t
+    go Other e = impossible (cc)
+    go (Is n k) e =
+        let (b, v) = guarded (leb n maxFields) (values n (drop k t)) fs e in
+        let j : length (joined fs) ≡ length t - k = ap length (values-filled n (drop k t) fs v .join) ∙ length-drop k t in
+        omega arith
+
 -- ---- a plain form is read as its fields
 
 pub read-plain : (fs : Fields) → Legal fs → fieldsOf (plain fs) ≡ some fs

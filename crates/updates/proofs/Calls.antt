@@ -1,15 +1,21 @@
 -- The two calls, from the judgement to what is delivered. Assumes nothing.
 use mathlib.Core.Path.{_≡_, refl, sym, ap, _∙_}
-use mathlib.Core.Bool.{true, false}
+use mathlib.Core.Bool.{Bool, true, false}
+use mathlib.Core.Logic.{⊎-elim}
 use mathlib.Core.List.{List, [], _∷_, _++_}
 use mathlib.Core.Option.{Option, none, some}
-use Prim.Native.Nat.{ℕ, zero, suc, _≤_}
+use Prim.Native.Nat.{ℕ, zero, suc, _<_, _≤_}
 use native.Mathlib.Omega.{arith}
+use borrow.Author.Tests.{le-leb, lt-leb, leb-false}
+use lib.Dec.{leb}
 use lib.ListN.{length, take, drop}
-use Rattle.first_bytes.specs.Bytes.{Bytes}
+use Rattle.first_bytes.specs.Bytes.{Bytes, pick}
+use Rattle.scalars.specs.Start.{arrayBy}
+use Rattle.scalars.specs.Header.{header}
+use Rattle.writing.proofs.Choice.{either}
 use Rattle.tuples.specs.Limits.{maxFields, maxTuple, maxOperations}
 use Rattle.writing.specs.Forms.{arrayHeader}
-use Rattle.tuples.specs.Tuple.{Fields, plain, fieldsOf}
+use Rattle.tuples.specs.Tuple.{Fields, plain, fieldsBy, fieldsOf}
 use Rattle.tuples.specs.Decoding.{Got, fails, gets}
 use Rattle.tuples.specs.Operation.{Operation, operation, before, andMore, operations, operationsOf}
 use Rattle.tuples.specs.Edit.{planOf, Plan, plans, step, Step, stop, next, perform, Run, done, run, onward, undoOf, onStep, inverse}
@@ -17,10 +23,10 @@ use Rattle.tuples.specs.Call.{Outcome, refusal, bytes, judged, onRun, updateOf,
 use Rattle.tuples.specs.declared.Refusal.{Refusal}
 use Rattle.tuples.specs.declared.Refusal.the-variants.{BadTuple, BadList}
 use Rattle.tuples.proofs.Legal.{plain-length}
-use Rattle.tuples.proofs.Tuple.{fields-legal}
+use Rattle.tuples.proofs.Tuple.{fields-legal, fields-short}
 use Rattle.engine.specs.Held.{fieldsIn, endOf, lengthsOf, over, Fit}
 use Rattle.engine.proofs.Fits.{held-over, fit-over, field-count, end-is, joined-in}
-use Rattle.loading.specs.Loading.{answerBy, scratchBy, measured, Laid}
+use Rattle.loading.specs.Loading.{answerBy, scratchBy, loadable, measuredIn, Laid}
 use Rattle.loading.specs.declared.Loaded.{Loaded}
 use Rattle.loading.specs.declared.Loaded.the-variants.{Bad as BadLoad, Fields as Count}
 use Rattle.loading.proofs.Judged.{measured-all}
@@ -28,8 +34,8 @@ use Rattle.operations.specs.Listing.{present, restOf}
 use Rattle.operations.proofs.Listing.{presentRest, one-more, operations-end, Judged}
 use Rattle.updates.specs.Running.{planIn, after, runFrom, undoFrom, restFrom, Runs, Told}
 use Rattle.updates.specs.declared.run.Ran.{Ran}
-use Rattle.updates.specs.declared.run.Ran.the-variants.{Refused, Done}
-use Rattle.updates.specs.Carrying.{Refuses, Carries}
+use Rattle.updates.specs.declared.run.Ran.the-variants.{NoRoom, Refused, Done}
+use Rattle.updates.specs.Carrying.{Refuses, Roomy, Carries}
 
 never : {A : Type 0} → _≡_ {A = ℕ} 0 1 → A
 never e = absurd (omega arith)
@@ -94,21 +100,40 @@ got base i (suc n) s t u h = one-more base n s ∙ go (λ r v e. got base (suc i
 
 module _ (s' : Bytes) (l' : List ℕ) (back list : Bytes) (base n : ℕ) (s : Bytes) (t : Fields) where
   pub told : (r : Ran) → Runs r s' l' back list base n s t → Told r list base n s
+  told NoRoom h = tt
   told (Refused k i) h = tt
   told (Done z) h = operations-end base list (z .at) ∙ sym (got base 0 n s t _ (h .goes) ∙ ap (λ (x : Bytes). present (operations base 0 x)) (h .rest))
 
 -- ---- what was judged
 
-module _ (tuple : Bytes) {r : Loaded} {s' : Bytes} {l' : List ℕ} {s : Bytes} {l : List ℕ} (h : Laid r s' l' s l (fieldsOf tuple) (measured tuple)) where
+-- an array that has room for every tuple that is one
+loads : (tuple s : Bytes) → Roomy tuple s → loadable (length s) tuple ≡ fieldsOf tuple
+unfolding loadable fieldsOf
+loads tuple s h = go (leb (length tuple) (length s)) refl
+  where
+    go : (b : Bool) → leb (length tuple) (length s) ≡ b → pick b (pick (leb (length tuple) maxTuple) (fieldsBy (header arrayBy tuple) tuple) none) none ≡ pick (leb (length tuple) maxTuple) (fieldsBy (header arrayBy tuple) tuple) none
+    go true e = refl
+    go false e =
+        let k = leb-false (length tuple) (length s) e in
+        let l : maxTuple < length tuple = ⊎-elim (λ i. absurd (let j = h i in omega arith)) (λ i. i) (either (length tuple) maxTuple) in
+        rw (lt-leb (length tuple) maxTuple l)
+
+module _ (tuple : Bytes) {r : Loaded} {s' : Bytes} {l' : List ℕ} {s : Bytes} {l : List ℕ} (roomy : Roomy tuple s)
+    (h : Laid r s' l' s l (loadable (length s) tuple) (measuredIn (length s) tuple)) where
   pub not-loaded : r ≡ BadLoad → fieldsOf tuple ≡ none
-  not-loaded q = go (fieldsOf tuple) refl (sym q ∙ h .answer)
+  not-loaded q = go (fieldsOf tuple) refl (sym q ∙ h .answer ∙ ap answerBy (loads tuple s roomy))
     where
       go : (t : Option Fields) → fieldsOf tuple ≡ t → BadLoad ≡ answerBy t → fieldsOf tuple ≡ none
       go none e a = e
       go (some t) e a = never (cc)
 
-  pub loaded : {n : ℕ} → r ≡ Count n → length s ≡ maxTuple → length l ≡ maxFields → (fieldsOf tuple ≡ some (fieldsIn s' l' n)) × Fit s' l' n
-  loaded {n} q i j = go (fieldsOf tuple) refl (sym q ∙ h .answer) (h .bytes)
+  measures : {t : Fields} → fieldsOf tuple ≡ some t → measuredIn (length s) tuple ≡ t
+  unfolding measuredIn
+  measures {t} e =
+      rw (le-leb (length tuple) (length s) (roomy (fields-short tuple t e .0))) (measured-all tuple e)
+
+  pub loaded : {n : ℕ} → r ≡ Count n → length l ≡ maxFields → (fieldsOf tuple ≡ some (fieldsIn s' l' n)) × Fit s' l' n
+  loaded {n} q j = go (fieldsOf tuple) refl (sym q ∙ h .answer ∙ ap answerBy (loads tuple s roomy)) (h .bytes ∙ ap (λ (t : Option Fields). scratchBy t s) (loads tuple s roomy))
     where
       go : (t : Option Fields) → fieldsOf tuple ≡ t → Count n ≡ answerBy t → s' ≡ scratchBy t s → (fieldsOf tuple ≡ some (fieldsIn s' l' n)) × Fit s' l' n
       go none e a b = never (cc)
@@ -116,8 +141,10 @@ module _ (tuple : Bytes) {r : Loaded} {s' : Bytes} {l' : List ℕ} {s : Bytes} {
           let x : n ≡ length t = cc in
           let k = fields-legal tuple t e .fit in
           let m = plain-length t in
-          let c : l' ≡ over (lengthsOf t) l = h .table ∙ ap (λ (u : Fields). over (lengthsOf u) l) (measured-all tuple e) in
-          rw (b, c, x) (e ∙ ap some (sym (held-over t s l)), fit-over t s l (k .few) (omega arith) i j)
+          let c : l' ≡ over (lengthsOf t) l = h .table ∙ ap (λ (u : Fields). over (lengthsOf u) l) (measures e) in
+          let i = fields-short tuple t e in
+          let o = roomy (i .0) in
+          rw (b, c, x) (e ∙ ap some (sym (held-over t s l)), fit-over t s l (k .few) (omega arith) (omega (arith, i .1)) j)
 
 -- the tuple's fields are held, and the operations of the list stand from a place on
 pub record Begin (scratch : Bytes) (lengths : List ℕ) (tuple list : Bytes) (base n count start : ℕ) : Type 0 where
@@ -169,6 +196,7 @@ module _ (tuple list : Bytes) (base : ℕ) where
 
     pub carries : (r : Ran) (s' : Bytes) (l' : List ℕ) (back : Bytes) → Runs r s' l' back list base count (drop start list) (fieldsIn s l n) → Carries r s' l' back tuple list base
     unfolding update updateOf undo undoListOf onRun
+    carries NoRoom s' l' back h = h
     carries (Refused k i) s' l' back h = (omega (arith, b .few, h .1), judged-is updateOf ∙ rw (runs-is, h .0), judged-is undoListOf ∙ rw (runs-is, h .0))
     carries (Done z) s' l' back h = record {
       fit = h .fit;

@@ -1,5 +1,6 @@
 -- One operation of a list, as the definition's step. Assumes nothing.
 use mathlib.Core.Path.{_≡_, refl, sym, ap, _∙_}
+use mathlib.Core.Logic.{inl}
 use mathlib.Core.List.{List, [], _∷_}
 use Prim.Native.Nat.{ℕ, zero, suc, _+_, _≤_}
 use native.Mathlib.Omega.{arith}
@@ -29,10 +30,11 @@ use Rattle.operations.specs.declared.Action.the-variants.{Plus, Minus, And, Xor
 use Rattle.operations.specs.declared.Opened.{Opened}
 use Rattle.operations.specs.declared.Opened.the-variants.{Is as IsOpened, Bad as NotOpened}
 use Rattle.operations.proofs.Opening.{actingIn, operation-none, operation-is}
+use Rattle.computing.specs.Altering.{Unless}
 use Rattle.planning.specs.Plan.{planned, workAfter, performed, editIn, Among, Means}
 use Rattle.planning.specs.declared.Planned.{Planned}
 use Rattle.planning.specs.declared.Planned.the-variants.{Refuse, Alter, Bring, Cut}
-use Rattle.planning.proofs.Steps.{plan-means, perform-means, left-stop, left-next}
+use Rattle.planning.proofs.Steps.{plan-means, performed-next, performed-stop, performed-fits, left-stop, left-next}
 use Rattle.undo_lists.specs.Laying.{countedAll, laidAll}
 use Rattle.undo_lists.specs.Inverse.{inverseIn}
 use Rattle.undo_lists.proofs.Inverses.{inverse-is}
@@ -83,19 +85,19 @@ module _ (list : Bytes) where
 
 -- ---- its plan
 
-refuses : (t : Fields) (list work : Bytes) {g : Got Operation} → g ≡ fails → Means t list work (Refuse BadList) (planIn g t)
+refuses : (room : ℕ) (t : Fields) (list work : Bytes) {g : Got Operation} → g ≡ fails → Means room t list work (Refuse BadList) (planIn g t)
 unfolding planIn perform
-refuses t list work e = rw e
+refuses room t list work e = inl (rw e)
 
 unfollowed : (list : Bytes) (e : ℕ) {g : Got Operation} → g ≡ fails → Follows g list e
 unfollowed list e q = rw q tt
 
-pub prepare-bad : (t : Fields) (list work : Bytes) (e : ℕ) {g : Got Operation} → g ≡ fails → Prepares (record { plan = Refuse BadList; end = e }) list work g t
-prepare-bad t list work e q = record { means = refuses t list work q; follows = unfollowed list e q }
+pub prepare-bad : (room : ℕ) (t : Fields) (list work : Bytes) (e : ℕ) {g : Got Operation} → g ≡ fails → Prepares room (record { plan = Refuse BadList; end = e }) list work g t
+prepare-bad room t list work e q = record { means = refuses room t list work q; follows = unfollowed list e q }
 
-pub prepare-is : {s : Bytes} {l : List ℕ} {n : ℕ} (fit : Fit s l n) (list work : Bytes) → maxTuple ≤ length work → (base : ℕ) (z : Int) (x : Action) {e : ℕ}
+pub prepare-is : {s : Bytes} {l : List ℕ} {n : ℕ} (fit : Fit s l n) (list work : Bytes) → length s ≤ length work → (base : ℕ) (z : Int) (x : Action) {e : ℕ}
     {g : Got Operation} → (actingIn base z (actionIn list x) ≡ g) × (endOf x ≡ At e) → {fd : Field} → fd ≡ fieldBy (less base z) → {p : Planned} {left : Bytes}
-    → (p ≡ planned fd x list s l n work) × (left ≡ workAfter fd x list s l n work) → Prepares (record { plan = p; end = e }) list left g (fieldsIn s l n)
+    → (p ≡ planned fd x list s l n work) × (left ≡ workAfter fd x list s l n work) → Prepares (length s) (record { plan = p; end = e }) list left g (fieldsIn s l n)
 unfolding planIn
 prepare-is {s} {l} {n} fit list work room base z x {e} {g} d {fd} i {p} {left} w =
     let a = acted list x (d .1) in
@@ -126,12 +128,12 @@ small-weight (Bring f g a e) n h i = omega arith
 small-weight (Cut f m) n h i = omega arith
 
 -- a plan that was performed is the edit itself
-taken : (t : Fields) (list work : Bytes) (p : Planned) (e : Edit) {u : Fields} → Means t list work p e → perform e t ≡ next u
+taken : (t : Fields) (list work s : Bytes) (l : List ℕ) (n room : ℕ) (p : Planned) (e : Edit) {u : Fields} → Means room t list work p e → performed p list work s l n ≡ next u
     → (e ≡ editIn p list work) × Among p (length t)
-taken t list work (Refuse k) e m h = never (cc)
-taken t list work (Alter f k) e m h = m
-taken t list work (Bring f g a b) e m h = m
-taken t list work (Cut f k) e m h = m
+taken t list work s l n room (Refuse k) e m h = never (cc)
+taken t list work s l n room (Alter f k) e m h = m
+taken t list work s l n room (Bring f g a b) e m h = m
+taken t list work s l n room (Cut f k) e m h = m
 
 -- what goes on was an operation, and its end is known
 follow : (list : Bytes) (end : ℕ) (g : Got Operation) (t : Fields) {u : Fields} → perform (planIn g t) t ≡ next u → Follows g list end → after g ≡ drop end list
@@ -140,20 +142,20 @@ follow list end fails t h k = never (cc)
 follow list end (gets o s) t h k = k
 
 module _ {s : Bytes} {l : List ℕ} {n : ℕ} (fit : Fit s l n) (list : Bytes) {left : Bytes} {p : Planned} {g : Got Operation} {end : ℕ}
-    (room : maxTuple ≤ length left) (r : Prepares (record { plan = p; end = end }) list left g (fieldsIn s l n))
+    (r : Prepares (length s) (record { plan = p; end = end }) list left g (fieldsIn s l n))
     {s' : Bytes} {l' : List ℕ} {y : Edited} (w : Left y s' l' s l (performed p list left s l n)) where
-  performs : performed p list left s l n ≡ perform (planIn g (fieldsIn s l n)) (fieldsIn s l n)
-  performs = perform-means fit list left room p left (planIn g (fieldsIn s l n)) (r .means)
-
-  pub step-stops : {k : Refusal} → y ≡ Stop k → perform (planIn g (fieldsIn s l n)) (fieldsIn s l n) ≡ stop k
-  step-stops q = sym performs ∙ left-stop w q
+  pub step-stops : {k : Refusal} → y ≡ Stop k → Unless (length s) k (perform (planIn g (fieldsIn s l n)) (fieldsIn s l n) ≡ stop k)
+  step-stops q = performed-stop fit list left p (planIn g (fieldsIn s l n)) (r .means) (left-stop w q)
 
   module _ {m : ℕ} (q : y ≡ Next m) where
     gone : (performed p list left s l n ≡ next (fieldsIn s' l' m)) × Fit s' l' m
-    gone = left-next w q fit (planIn g (fieldsIn s l n)) (fieldsIn s l n) performs
+    gone = left-next w q fit (performed-fits fit list left p)
+
+    goes : perform (planIn g (fieldsIn s l n)) (fieldsIn s l n) ≡ next (fieldsIn s' l' m)
+    goes = performed-next fit list left p (planIn g (fieldsIn s l n)) (r .means) (gone .0)
 
     edit : (planIn g (fieldsIn s l n) ≡ editIn p list left) × Among p (length (fieldsIn s l n))
-    edit = taken (fieldsIn s l n) list left p (planIn g (fieldsIn s l n)) (r .means) (sym performs ∙ gone .0)
+    edit = taken (fieldsIn s l n) list left s l n (length s) p (planIn g (fieldsIn s l n)) (r .means) (gone .0)
 
     among : Among p n
     among = rw (field-count fit) at (edit .1)
@@ -171,9 +173,9 @@ module _ {s : Bytes} {l : List ℕ} {n : ℕ} (fit : Fit s l n) (list : Bytes) {
         let v : weightOf p ≡ length (inverse (planIn g (fieldsIn s l n)) (fieldsIn s l n))
         = weight-is p (fieldsIn s l n) list left (edit .1) ∙ ap (λ (e : Edit). length (inverse e (fieldsIn s l n))) (sym (edit .0)) in
         record {
-          goes = sym performs ∙ gone .0 ∙ ap (λ (k : ℕ). next (fieldsIn s' l' k)) (sym a);
+          goes = goes ∙ ap (λ (k : ℕ). next (fieldsIn s' l' k)) (sym a);
           fit = rw a (gone .1);
-          rest = rw b (follow list end g (fieldsIn s l n) (sym performs ∙ gone .0) (r .follows));
+          rest = rw b (follow list end g (fieldsIn s l n) goes (r .follows));
           laid = c ∙ (omega arith);
           bytes = d ∙ rw inverts;
           buffer = e ∙ rw inverts;

@@ -1,19 +1,26 @@
 -- A run goes from one operation to the next. Assumes nothing.
 use mathlib.Core.Path.{_≡_, refl, sym, ap, _∙_}
+use mathlib.Core.Bool.{true, false}
+use mathlib.Core.Logic.{inl, inr}
 use mathlib.Core.List.{List, [], _++_, append-assoc, append-nil}
 use Prim.Native.Nat.{ℕ, suc, _+_, _-_, _<_}
 use native.Mathlib.Omega.{arith}
 use native.Mathlib.Nat.{sub-zero}
+use borrow.Author.Tests.{leb-true, leb-false}
+use lib.Dec.{leb}
 use lib.ListN.{length, drop, length-append}
 use Rattle.first_bytes.specs.Bytes.{Bytes}
 use Rattle.tuples.specs.Tuple.{Fields}
 use Rattle.tuples.specs.Operation.{operation}
 use Rattle.tuples.specs.Edit.{stop, next, perform, refused, inverse}
 use Rattle.tuples.specs.declared.Refusal.{Refusal}
+use Rattle.tuples.specs.declared.Refusal.the-variants.{BadTuple, BadList, NoField, Unsuited, OutOfRange, TooLarge, LongUndo, ShortBuffer}
+use Rattle.tuples.specs.Limits.{maxTuple}
+use Rattle.computing.specs.Altering.{Unless}
 use Rattle.engine.specs.Held.{fieldsIn, Fit}
 use Rattle.undo_lists.specs.Laying.{Piled}
 use Rattle.undo_lists.proofs.Piles.{none-piled, piled-all}
-use Rattle.updates.specs.Running.{planIn, after, runFrom, undoFrom, restFrom, Onward, Through}
+use Rattle.updates.specs.Running.{planIn, after, runFrom, undoFrom, restFrom, certainly, Onward, Through}
 use Rattle.updates.specs.declared.run.Stage.{Stage}
 
 module _ (base i n : ℕ) (s : Bytes) (t : Fields) where
@@ -34,6 +41,22 @@ module _ (base i n : ℕ) (s : Bytes) (t : Fields) where
   unfolding restFrom
   rests e = rw (← e)
 
+-- ---- a refusal that is certain
+
+sure : {A : Type 0} (k : Refusal) (room : ℕ) → certainly k room ≡ true → Unless room k A → A
+sure k room c (inl a) = a
+sure k room c (inr x) = absurd (let h : leb maxTuple room ≡ true = rw (x .0) at c in let l = leb-true maxTuple room h in omega (arith, x .1))
+
+pub unsure : (k : Refusal) (room : ℕ) → certainly k room ≡ false → room < maxTuple
+unsure BadTuple room c = absurd (let z : _≡_ {A = ℕ} 0 1 = cc in omega arith)
+unsure BadList room c = absurd (let z : _≡_ {A = ℕ} 0 1 = cc in omega arith)
+unsure NoField room c = absurd (let z : _≡_ {A = ℕ} 0 1 = cc in omega arith)
+unsure Unsuited room c = absurd (let z : _≡_ {A = ℕ} 0 1 = cc in omega arith)
+unsure OutOfRange room c = absurd (let z : _≡_ {A = ℕ} 0 1 = cc in omega arith)
+unsure TooLarge room c = leb-false maxTuple room c
+unsure LongUndo room c = absurd (let z : _≡_ {A = ℕ} 0 1 = cc in omega arith)
+unsure ShortBuffer room c = absurd (let z : _≡_ {A = ℕ} 0 1 = cc in omega arith)
+
 -- i operations of n are performed: what is left to do is what was to be done; and the operations us lie on the undo list
 pub record Sofar (base n : ℕ) (from : Bytes) (t₀ : Fields) (list scratch : Bytes) (lengths : List ℕ) (undo : Bytes) (z : Stage) (i : ℕ) : Type 0 where
   pub goes : runFrom base i (n - i) (drop (z .at) list) (fieldsIn scratch lengths (z .fields)) ≡ runFrom base 0 n from t₀
@@ -50,10 +73,11 @@ begin base n list scratch lengths undo fields start =
 
 module _ {base n : ℕ} {from : Bytes} {t₀ : Fields} {list scratch : Bytes} {lengths : List ℕ} {undo : Bytes} {z : Stage} {i : ℕ}
     (f : Sofar base n from t₀ list scratch lengths undo z i) where
-  pub run-stops : {k : Refusal} → i < n
-      → perform (planIn (operation base (drop (z .at) list)) (fieldsIn scratch lengths (z .fields))) (fieldsIn scratch lengths (z .fields)) ≡ stop k
+  pub run-stops : {k : Refusal} {room : ℕ} → i < n → certainly k room ≡ true
+      → Unless room k (perform (planIn (operation base (drop (z .at) list)) (fieldsIn scratch lengths (z .fields))) (fieldsIn scratch lengths (z .fields)) ≡ stop k)
       → runFrom base 0 n from t₀ ≡ refused k i
-  run-stops h e =
+  run-stops {k} {room} h c u =
+      let e = sure k room c u in
       let m : n - i ≡ suc (n - (i + 1)) = omega arith in
       sym (f .goes) ∙ rw m (stops base i (n - (i + 1)) (drop (z .at) list) (fieldsIn scratch lengths (z .fields)) e)
 

@@ -1,21 +1,24 @@
 -- A run of operations, straight from the bytes of a list; and what the parts of the two calls tell each other.
 use Prim.Native.Nat.{ℕ, zero, suc, _+_, _<_, _≤_}
+use mathlib.Core.Bool.{Bool, true}
 use mathlib.Core.Path.{_≡_}
 use mathlib.Core.List.{List, [], _++_}
 use lib.Dec.{leb}
 use lib.ListN.{length, drop}
 use Rattle.first_bytes.specs.Bytes.{Bytes}
-use Rattle.tuples.specs.Limits.{maxFields}
+use Rattle.tuples.specs.Limits.{maxFields, maxTuple}
 use Rattle.tuples.specs.Tuple.{Fields}
 use Rattle.tuples.specs.Decoding.{Got, fails, gets}
 use Rattle.tuples.specs.Operation.{Operation, operation, operations}
 use Rattle.tuples.specs.Edit.{Edit, refuse, planOf, stop, next, perform, Run, refused, done, onward, inverse, onStep}
-use Rattle.tuples.specs.declared.Refusal.the-variants.{BadList}
+use Rattle.tuples.specs.declared.Refusal.{Refusal}
+use Rattle.tuples.specs.declared.Refusal.the-variants.{BadTuple, BadList, NoField, Unsuited, OutOfRange, TooLarge, LongUndo, ShortBuffer}
 use Rattle.engine.specs.Held.{fieldsIn, Fit}
 use Rattle.operations.specs.Found.{actionIn, endOf}
 use Rattle.operations.specs.Listing.{present}
 use Rattle.operations.specs.declared.Ended.the-variants.{At}
 use Rattle.operations.proofs.Opening.{actingIn}
+use Rattle.computing.specs.Altering.{Unless}
 use Rattle.planning.specs.Plan.{Means}
 use Rattle.planning.specs.declared.Planned.{Planned}
 use Rattle.planning.specs.declared.Planned.the-variants.{Refuse, Alter, Bring, Cut}
@@ -27,7 +30,7 @@ use Rattle.updates.specs.declared.run.Stage.{Stage}
 use Rattle.updates.specs.declared.run.Stepped.{Stepped}
 use Rattle.updates.specs.declared.run.Stepped.the-variants.{Stop, Next}
 use Rattle.updates.specs.declared.run.Ran.{Ran}
-use Rattle.updates.specs.declared.run.Ran.the-variants.{Refused, Done}
+use Rattle.updates.specs.declared.run.Ran.the-variants.{NoRoom, Refused, Done}
 
 -- the edit of an operation that was got, and the bytes after it; a list that was judged has no other
 unfoldable pub planIn : Got Operation → Fields → Edit
@@ -64,8 +67,8 @@ abbrev pub Follows : Got Operation → Bytes → ℕ → Type 0
 Follows fails list e = Unit {0}
 Follows (gets o s) list e = s ≡ drop e list
 
-pub record Prepares (r : Prepared) (list work : Bytes) (g : Got Operation) (t : Fields) : Type 0 where
-  pub means : Means t list work (r .plan) (planIn g t)
+pub record Prepares (room : ℕ) (r : Prepared) (list work : Bytes) (g : Got Operation) (t : Fields) : Type 0 where
+  pub means : Means room t list work (r .plan) (planIn g t)
   pub follows : Follows g list (r .end)
 
 abbrev pub weightOf : Planned → ℕ
@@ -84,9 +87,9 @@ pub record Onward (z : Stage) (scratch : Bytes) (lengths : List ℕ) (undo list 
   pub buffer : undo ≡ laidAll (inverse (planIn g t) t) (z₀ .bytes) undo₀
   pub few : z .laid ≤ z₀ .laid + maxFields
 
-abbrev pub Steps : Stepped → Bytes → List ℕ → Bytes → Bytes → Bytes → Stage → Got Operation → Fields → Type 0
-Steps (Stop k) scratch lengths undo list undo₀ z₀ g t = perform (planIn g t) t ≡ stop k
-Steps (Next z) scratch lengths undo list undo₀ z₀ g t = Onward z scratch lengths undo list undo₀ z₀ g t
+abbrev pub Steps : ℕ → Stepped → Bytes → List ℕ → Bytes → Bytes → Bytes → Stage → Got Operation → Fields → Type 0
+Steps room (Stop k) scratch lengths undo list undo₀ z₀ g t = Unless room k (perform (planIn g t) t ≡ stop k)
+Steps room (Next z) scratch lengths undo list undo₀ z₀ g t = Onward z scratch lengths undo list undo₀ z₀ g t
 
 -- after all of them: the place after the last; and what takes them back lies at the end of the undo list's buffer
 pub record Through (z : Stage) (scratch : Bytes) (lengths : List ℕ) (undo : Bytes) (list : Bytes) (base n : ℕ) (s : Bytes) (t : Fields) : Type 0 where
@@ -96,11 +99,24 @@ pub record Through (z : Stage) (scratch : Bytes) (lengths : List ℕ) (undo : By
   pub laid : z .laid ≡ length (undoFrom base n s t)
   pub piled : Piled undo (z .bytes) (undoFrom base n s t)
 
+-- whether a refusal is certain in arrays of `room` bytes
+abbrev pub certainly : Refusal → ℕ → Bool
+certainly BadTuple room = true
+certainly BadList room = true
+certainly NoField room = true
+certainly Unsuited room = true
+certainly OutOfRange room = true
+certainly TooLarge room = leb maxTuple room
+certainly LongUndo room = true
+certainly ShortBuffer room = true
+
 abbrev pub Runs : Ran → Bytes → List ℕ → Bytes → Bytes → ℕ → ℕ → Bytes → Fields → Type 0
+Runs NoRoom scratch lengths undo list base n s t = length scratch < maxTuple
 Runs (Refused k i) scratch lengths undo list base n s t = (runFrom base 0 n s t ≡ refused k i) × (i < n)
 Runs (Done z) scratch lengths undo list base n s t = Through z scratch lengths undo list base n s t
 
 -- where all were performed, they fill the list exactly where nothing stands after them
 abbrev pub Told : Ran → Bytes → ℕ → ℕ → Bytes → Type 0
+Told NoRoom list base n s = Unit {0}
 Told (Refused k i) list base n s = Unit {0}
 Told (Done z) list base n s = leb (length list) (z .at) ≡ present (operations base n s)

@@ -4,22 +4,23 @@ use crate::run::Ran;
 use loading::Loaded;
 use operations::Listed;
 use tuples::MAX_FIELDS;
-use tuples::MAX_TUPLE;
 use tuples::Refusal;
 ghost use mathlib.Core.Path.{_≡_};
 ghost use lib.ListN.{length};
-ghost use Rattle.tuples.specs.Limits.{maxFields, maxTuple};
-ghost use Rattle.updates.specs.Carrying.{Carries};
+ghost use Prim.Native.Nat.{_≤_};
+ghost use Rattle.tuples.specs.Limits.{maxFields};
+ghost use Rattle.updates.specs.Carrying.{Roomy, Carries};
 
 pub(crate) fn carry_out(
     tuple: &[u8],
     list: &[u8],
     base: u64,
-    scratch: &mut [u8; MAX_TUPLE],
+    scratch: &mut [u8],
     lengths: &mut [u16; MAX_FIELDS],
+    work: &mut [u8],
     undo: &mut [u8],
 ) -> Ran
-    requires { ⌜ (length (now scratch) ≡ maxTuple) × (length (now lengths) ≡ maxFields) ⌝ }
+    requires { ⌜ Roomy (now tuple) (now scratch) × (length (now scratch) ≤ length (now work)) × (length (now lengths) ≡ maxFields) ⌝ }
     ensures { λ r. ⌜ Carries r (now (scratch .exit)) (now (lengths .exit)) (now (undo .exit)) (now (tuple .entry)) (now (list .entry)) base ⌝ }
 {
     let Loaded::Fields(n) = loading::load(tuple, scratch, lengths) else {
@@ -28,18 +29,7 @@ pub(crate) fn carry_out(
     let Listed::Good(count, start) = operations::front_of(list, base) else {
         return Ran::Refused(Refusal::BadList, 0);
     };
-    let mut work = [0u8; MAX_TUPLE];
-    let ran = crate::run::run(
-        list,
-        start,
-        count,
-        base,
-        scratch,
-        lengths,
-        n,
-        &mut work,
-        undo,
-    );
+    let ran = crate::run::run(list, start, count, base, scratch, lengths, n, work, undo);
     if crate::run::filled(list, start, count, base, ran) {
         return ran;
     }

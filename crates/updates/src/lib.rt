@@ -15,42 +15,84 @@ ghost use Prim.Native.Nat.{_≤_};
 ghost use lib.ListN.{length};
 ghost use Rattle.tuples.specs.Call.{delivered, updateCall, undoCall};
 ghost use Rattle.answers.specs.Seen.{seen};
-ghost use Rattle.updates.specs.Listing.{listIn, Tries};
+ghost use Rattle.updates.specs.Listing.{listIn, TriesUpdate, TriesUndo};
+ghost use Rattle.updates.specs.Carrying.{Roomy};
 
-// Where tuple and list are at most so long, the undo list has room in three times that but for rare
-// cases.
+// Where tuple and list are at most so long, the new tuple has room in twice that, and the undo list
+// in three times that, but for rare cases.
 const SHORT: usize = 2048;
 
-// The undo call's answer; or the undo list's operations have no room in the buffer, and nothing was
-// written.
+// The call's answer; or something had no room in the arrays, and nothing was written.
 enum Tried {
     Answered(Answer),
     NoRoom,
 }
 
-// The list's operations on the tuple; the new tuple into `out`. The call needs no undo list, and
-// lends no room for one.
-pub fn update(tuple: &[u8], list: &[u8], index_base: u64, out: &mut [u8]) -> Answer
-    ensures { λ r. ⌜ seen r (now (out .exit)) ≡ updateCall (now (tuple .entry)) (now (list .entry)) «index_base» (now (out .entry)) ⌝ }
+// The update call, with arrays for the tuple under work. The call needs no undo list, and lends no
+// room for one.
+fn update_in(
+    tuple: &[u8],
+    list: &[u8],
+    index_base: u64,
+    scratch: &mut [u8],
+    work: &mut [u8],
+    out: &mut [u8],
+) -> Tried
+    requires { ⌜ Roomy (now tuple) (now scratch) × (length (now scratch) ≤ length (now work)) ⌝ }
+    ensures { λ r. ⌜ TriesUpdate r (now (scratch .entry)) (now (tuple .entry)) (now (list .entry)) «index_base» (now (out .entry)) (now (out .exit)) ⌝ }
 {
-    let mut scratch = [0u8; MAX_TUPLE];
     let mut lengths = [0u16; MAX_FIELDS];
     let mut none = [0u8; 1];
     match carry_out(
         tuple,
         list,
         index_base,
-        &mut scratch,
+        scratch,
         &mut lengths,
+        work,
         &mut none[..0],
     ) {
-        Ran::Refused(refusal, i) => answers::refused(refusal, i as u32),
+        Ran::NoRoom => Tried::NoRoom,
+        Ran::Refused(refusal, i) => Tried::Answered(answers::refused(refusal, i as u32)),
         Ran::Done(stage) => {
             let fields = stage.fields;
             let bytes = engine::end_of(&lengths, fields);
-            answers::deliver(fields as u32, &scratch[..bytes], out)
+            Tried::Answered(answers::deliver(fields as u32, &scratch[..bytes], out))
         }
     }
+}
+
+// With room for every tuple within the limits.
+fn update_long(tuple: &[u8], list: &[u8], index_base: u64, out: &mut [u8]) -> Answer
+    ensures { λ r. ⌜ seen r (now (out .exit)) ≡ updateCall (now (tuple .entry)) (now (list .entry)) «index_base» (now (out .entry)) ⌝ }
+{
+    let mut scratch = [0u8; MAX_TUPLE];
+    let mut work = [0u8; MAX_TUPLE];
+    let Tried::Answered(answer) = update_in(tuple, list, index_base, &mut scratch, &mut work, out)
+    else {
+        return answers::refused(Refusal::TooLarge, 0);
+    };
+    answer
+}
+
+// The list's operations on the tuple; the new tuple into `out`. Short arrays are tried first: to zero
+// the long ones takes longer than a small update.
+pub fn update(tuple: &[u8], list: &[u8], index_base: u64, out: &mut [u8]) -> Answer
+    ensures { λ r. ⌜ seen r (now (out .exit)) ≡ updateCall (now (tuple .entry)) (now (list .entry)) «index_base» (now (out .entry)) ⌝ }
+{
+    if SHORT < tuple.len() {
+        return update_long(tuple, list, index_base, out);
+    }
+    if SHORT < list.len() {
+        return update_long(tuple, list, index_base, out);
+    }
+    let mut scratch = [0u8; 2 * SHORT];
+    let mut work = [0u8; 2 * SHORT];
+    let Tried::Answered(answer) = update_in(tuple, list, index_base, &mut scratch, &mut work, out)
+    else {
+        return update_long(tuple, list, index_base, out);
+    };
+    answer
 }
 
 // The undo list of so many operations, whose bytes lie at the end of the buffer.
@@ -68,13 +110,22 @@ fn finish(undo: &[u8], laid: usize, bytes: usize, out: &mut [u8]) -> Answer
     answers::deliver(laid as u32, &undo[start..], out)
 }
 
-// The undo call, with a buffer for the undo list's operations.
-fn undo_in(tuple: &[u8], list: &[u8], index_base: u64, back: &mut [u8], out: &mut [u8]) -> Tried
-    ensures { λ r. ⌜ Tries r (now (back .entry)) (now (tuple .entry)) (now (list .entry)) «index_base» (now (out .entry)) (now (out .exit)) ⌝ }
+// The undo call, with arrays for the tuple under work and a buffer for the undo list's operations.
+fn undo_in(
+    tuple: &[u8],
+    list: &[u8],
+    index_base: u64,
+    scratch: &mut [u8],
+    work: &mut [u8],
+    back: &mut [u8],
+    out: &mut [u8],
+) -> Tried
+    requires { ⌜ Roomy (now tuple) (now scratch) × (length (now scratch) ≤ length (now work)) ⌝ }
+    ensures { λ r. ⌜ TriesUndo r (now (scratch .entry)) (now (back .entry)) (now (tuple .entry)) (now (list .entry)) «index_base» (now (out .entry)) (now (out .exit)) ⌝ }
 {
-    let mut scratch = [0u8; MAX_TUPLE];
     let mut lengths = [0u16; MAX_FIELDS];
-    match carry_out(tuple, list, index_base, &mut scratch, &mut lengths, back) {
+    match carry_out(tuple, list, index_base, scratch, &mut lengths, work, back) {
+        Ran::NoRoom => Tried::NoRoom,
         Ran::Refused(refusal, i) => Tried::Answered(answers::refused(refusal, i as u32)),
         Ran::Done(stage) => {
             let bytes = stage.bytes;
@@ -86,19 +137,29 @@ fn undo_in(tuple: &[u8], list: &[u8], index_base: u64, back: &mut [u8], out: &mu
     }
 }
 
-// With room for every undo list within the limits.
+// With room for every tuple and every undo list within the limits.
 fn undo_long(tuple: &[u8], list: &[u8], index_base: u64, out: &mut [u8]) -> Answer
     ensures { λ r. ⌜ seen r (now (out .exit)) ≡ undoCall (now (tuple .entry)) (now (list .entry)) «index_base» (now (out .entry)) ⌝ }
 {
+    let mut scratch = [0u8; MAX_TUPLE];
+    let mut work = [0u8; MAX_TUPLE];
     let mut back = [0u8; MAX_LIST];
-    let Tried::Answered(answer) = undo_in(tuple, list, index_base, &mut back, out) else {
+    let Tried::Answered(answer) = undo_in(
+        tuple,
+        list,
+        index_base,
+        &mut scratch,
+        &mut work,
+        &mut back,
+        out,
+    ) else {
         return answers::refused(Refusal::LongUndo, 0);
     };
     answer
 }
 
-// What takes the list's operations on the tuple back; the undo list into `out`. A short buffer is
-// tried first: to zero the long one takes longer than a small undo.
+// What takes the list's operations on the tuple back; the undo list into `out`. Short arrays are
+// tried first, as for an update.
 pub fn undo(tuple: &[u8], list: &[u8], index_base: u64, out: &mut [u8]) -> Answer
     ensures { λ r. ⌜ seen r (now (out .exit)) ≡ undoCall (now (tuple .entry)) (now (list .entry)) «index_base» (now (out .entry)) ⌝ }
 {
@@ -108,8 +169,18 @@ pub fn undo(tuple: &[u8], list: &[u8], index_base: u64, out: &mut [u8]) -> Answe
     if SHORT < list.len() {
         return undo_long(tuple, list, index_base, out);
     }
+    let mut scratch = [0u8; 2 * SHORT];
+    let mut work = [0u8; 2 * SHORT];
     let mut back = [0u8; 3 * SHORT];
-    let Tried::Answered(answer) = undo_in(tuple, list, index_base, &mut back, out) else {
+    let Tried::Answered(answer) = undo_in(
+        tuple,
+        list,
+        index_base,
+        &mut scratch,
+        &mut work,
+        &mut back,
+        out,
+    ) else {
         return undo_long(tuple, list, index_base, out);
     };
     answer

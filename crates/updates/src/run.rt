@@ -11,11 +11,11 @@ use tuples::Refusal;
 ghost use mathlib.Core.Path.{_≡_};
 ghost use Prim.Native.Nat.{_*_, _<_, _≤_};
 ghost use lib.ListN.{length, drop};
-ghost use Rattle.tuples.specs.Limits.{maxFields, maxTuple, maxOperations};
+ghost use Rattle.tuples.specs.Limits.{maxFields, maxOperations};
 ghost use Rattle.tuples.specs.Operation.{operation, operations};
 ghost use Rattle.operations.specs.Listing.{present};
 ghost use Rattle.engine.specs.Held.{fieldsIn, Fit};
-ghost use Rattle.updates.specs.Running.{Decodes, Prepares, weightOf, Steps, Runs, Told};
+ghost use Rattle.updates.specs.Running.{Decodes, Prepares, weightOf, Steps, certainly, Runs, Told};
 
 // An operation's field number as it was sent, its action, and the place after it.
 enum Decoded {
@@ -43,8 +43,10 @@ enum Stepped {
     Next(Stage),
 }
 
-// All were performed; or one was refused, with its index.
+// All were performed; or one was refused, with its index; or one had no room in the arrays, which are
+// smaller than a tuple may be.
 pub(crate) enum Ran {
+    NoRoom,
     Refused(Refusal, usize),
     Done(Stage),
 }
@@ -72,8 +74,8 @@ fn prepare(
     n: usize,
     work: &mut [u8],
 ) -> Prepared
-    requires { ⌜ Fit (now scratch) (now lengths) n × (maxTuple ≤ length (now work)) ⌝ }
-    ensures { λ r. ⌜ Prepares r (now (list .entry)) (now (work .exit)) (operation base (drop at (now (list .entry))))
+    requires { ⌜ Fit (now scratch) (now lengths) n × (length (now scratch) ≤ length (now work)) ⌝ }
+    ensures { λ r. ⌜ Prepares (length (now (scratch .entry))) r (now (list .entry)) (now (work .exit)) (operation base (drop at (now (list .entry))))
         (fieldsIn (now (scratch .entry)) (now (lengths .entry)) n) ⌝ }
 {
     let Decoded::Is(number, action, end) = operation_at(list, at, base) else {
@@ -110,15 +112,15 @@ fn weight(plan: Planned) -> usize
 fn step(
     list: &[u8],
     base: u64,
-    scratch: &mut [u8; MAX_TUPLE],
+    scratch: &mut [u8],
     lengths: &mut [u16; MAX_FIELDS],
-    work: &mut [u8; MAX_TUPLE],
+    work: &mut [u8],
     undo: &mut [u8],
     stage: Stage,
 ) -> Stepped
-    requires { ⌜ Fit (now scratch) (now lengths) (stage .fields) ⌝ }
+    requires { ⌜ Fit (now scratch) (now lengths) (stage .fields) × (length (now scratch) ≤ length (now work)) ⌝ }
     requires { ⌜ stage .laid ≤ maxOperations * maxFields ⌝ }
-    ensures { λ r. ⌜ Steps r (now (scratch .exit)) (now (lengths .exit)) (now (undo .exit)) (now (list .entry)) (now (undo .entry)) stage
+    ensures { λ r. ⌜ Steps (length (now (scratch .entry))) r (now (scratch .exit)) (now (lengths .exit)) (now (undo .exit)) (now (list .entry)) (now (undo .entry)) stage
         (operation base (drop (stage .at) (now (list .entry)))) (fieldsIn (now (scratch .entry)) (now (lengths .entry)) (stage .fields)) ⌝ }
 {
     let fields = stage.fields;
@@ -136,19 +138,36 @@ fn step(
     }
 }
 
+// Whether a refusal is certain in an array of `room` bytes: a larger one may have room for what was
+// too large.
+fn certain(refusal: Refusal, room: usize) -> bool
+    ensures { λ r. ⌜ r ≡ certainly refusal room ⌝ }
+{
+    match refusal {
+        Refusal::BadTuple => true,
+        Refusal::BadList => true,
+        Refusal::NoField => true,
+        Refusal::Unsuited => true,
+        Refusal::OutOfRange => true,
+        Refusal::TooLarge => MAX_TUPLE <= room,
+        Refusal::LongUndo => true,
+        Refusal::ShortBuffer => true,
+    }
+}
+
 // `count` operations from `start` on.
 pub(crate) fn run(
     list: &[u8],
     start: usize,
     count: usize,
     base: u64,
-    scratch: &mut [u8; MAX_TUPLE],
+    scratch: &mut [u8],
     lengths: &mut [u16; MAX_FIELDS],
     n: usize,
-    work: &mut [u8; MAX_TUPLE],
+    work: &mut [u8],
     undo: &mut [u8],
 ) -> Ran
-    requires { ⌜ Fit (now scratch) (now lengths) n × (count ≤ maxOperations) ⌝ }
+    requires { ⌜ Fit (now scratch) (now lengths) n × (length (now scratch) ≤ length (now work)) × (count ≤ maxOperations) ⌝ }
     ensures { λ r. ⌜ Runs r (now (scratch .exit)) (now (lengths .exit)) (now (undo .exit)) (now (list .entry)) base count (drop start (now (list .entry)))
         (fieldsIn (now (scratch .entry)) (now (lengths .entry)) n) ⌝ }
 {
@@ -162,7 +181,10 @@ pub(crate) fn run(
     while i < count {
         match step(list, base, scratch, lengths, work, undo, stage) {
             Stepped::Stop(refusal) => {
-                return Ran::Refused(refusal, i);
+                if certain(refusal, scratch.len()) {
+                    return Ran::Refused(refusal, i);
+                }
+                return Ran::NoRoom;
             }
             Stepped::Next(next) => {
                 stage = next;
@@ -180,6 +202,7 @@ pub(crate) fn filled(list: &[u8], start: usize, count: usize, base: u64, ran: Ra
     ensures { λ r. ⌜ r ≡ present (operations base count (drop start (now (list .entry)))) ⌝ }
 {
     match ran {
+        Ran::NoRoom => operations::fill_list(list, start, count, base),
         Ran::Refused(_, _) => operations::fill_list(list, start, count, base),
         Ran::Done(stage) => list.len() <= stage.at,
     }

@@ -1,5 +1,6 @@
--- The answer, or 17, since every list within the limits has room. Assumes nothing.
+-- The answer; or 17, since every list within the limits has room. Assumes nothing.
 use mathlib.Core.Path.{_≡_, refl, ap, _∙_}
+use native.Mathlib.Omega.{arith}
 use Rattle.answers.specs.Seen.{seen}
 use Rattle.tuples.specs.declared.Refusal.the-variants.{LongUndo}
 use Rattle.answers.proofs.Written.{seen-refusal}
@@ -11,8 +12,14 @@ use Rattle.updates.proofs.undo_long.Tie as tie
 slice-aggregate-undo-in : tie.Need-slice-aggregate-undo-in
 slice-aggregate-undo-in c = search needs
 
+slice-aggregate-undo-in-2 : tie.Need-slice-aggregate-undo-in-2
+slice-aggregate-undo-in-2 c = search needs
+
+slice-aggregate-undo-in-3 : tie.Need-slice-aggregate-undo-in-3
+slice-aggregate-undo-in-3 c = search needs
+
 undo-in-requires : tie.Need-undo-in-requires
-undo-in-requires c κs = search needs
+undo-in-requires c κs = (λ h. omega (arith, h), omega arith)
 
 enum-known-answer : tie.Need-enum-known-answer
 enum-known-answer c = search needs
@@ -28,22 +35,24 @@ same-length c = search needs
 
 returns : tie.Need-returns
 returns c =
-    let u = c .before .before .before .before .before .before in
-    let a = u .before .before .before .before .before .before .args in
+    let u = c .before .before .before .before .before .before .before .before in
+    let a = u .before .before .before .before .before .before .before .before .args in
     let n = rw (c .before .enum-told .given .1) at (u .undo-in .ensures) in
-    seen-undo (a .tuple .now) (a .list .now) (a .index-base) (a .out .now) (n .1 refl) (ap (seen (c .refused .result)) (n .0) ∙ seen-refusal LongUndo 0 (a .out .now) (c .refused .ensures))
+    seen-undo (a .tuple .now) (a .list .now) (a .index-base) (a .out .now) (n .1 (omega arith) refl) (ap (seen (c .refused .result)) (n .0) ∙ seen-refusal LongUndo 0 (a .out .now) (c .refused .ensures))
 
 same-length-2 : tie.Need-same-length-2
 same-length-2 c = search needs
 
 returns-2 : tie.Need-returns-2
-returns-2 c = rw (c .before .answer .given .1) at (c .before .before .before .before .before .before .undo-in .ensures)
+returns-2 c = rw (c .before .answer .given .1) at (c .before .before .before .before .before .before .before .before .undo-in .ensures)
 
 pub undo-long-spec : {M : Type 1} → statement M
 undo-long-spec =
     tie.close
     (tie.spec
     slice-aggregate-undo-in
+    slice-aggregate-undo-in-2
+    slice-aggregate-undo-in-3
     undo-in-requires
     enum-known-answer
     enum-told

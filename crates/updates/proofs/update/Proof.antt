@@ -1,96 +1,80 @@
--- What is held after all operations is delivered. Assumes nothing.
-use mathlib.Core.Path.{sym, ap, _∙_}
+-- By short arrays or long ones. Assumes nothing.
+use mathlib.Core.Path.{_≡_, ap, _∙_}
 use native.Mathlib.Omega.{arith}
-use lib.Seq.{length-take-le}
-use Rattle.tuples.specs.Call.{bytes}
-use Rattle.answers.proofs.Written.{seen-refusal}
-use Rattle.updates.specs.Carrying.{Refuses, Carried}
-use Rattle.updates.proofs.Calls.{plain-held, end-inside, seen-update}
+use Rattle.tuples.specs.Call.{updateCall}
 use borrow.Author.Needs.{needs}
 use Rattle.updates.proofs.update.Statement.{statement}
 use Rattle.updates.proofs.update.Tie as tie
 
-refusing : (k : tie.After-known-told) → (let a = k .before .before .before .before .before .before .before .before .before .before .before .args in let x = k .before .refusal .given .0 in Refuses (x .0) (x .1 .0) (a .tuple .now) (a .list .now) (a .index-base))
-refusing k = rw (k .before .refusal .given .1) at (k .before .before .before .before .carry-out .ensures)
-
-carried : (k : tie.After-known-told2) → (let r = k .before .before .before .before in let a = r .before .before .before .before .before .before .before .args in let t = r .carry-out .last .1 .1 .1 in Carried (k .before .stage .given .0 .0) (t .0) (t .1 .0) (t .1 .1 .0) (a .tuple .now) (a .list .now) (a .index-base))
-carried k = rw (k .before .stage .given .1) at (k .before .before .before .before .carry-out .ensures)
-
-array-borrow-prefix-none : tie.Need-array-borrow-prefix-none
-array-borrow-prefix-none c = search needs
-
-slice-aggregate-carry-out : tie.Need-slice-aggregate-carry-out
-slice-aggregate-carry-out c = search needs
-
-carry-out-requires : tie.Need-carry-out-requires
-carry-out-requires c κs = search needs
-
-enum-known-refusal : tie.Need-enum-known-refusal
-enum-known-refusal c = search needs
-
-cast-refused : tie.Need-cast-refused
-cast-refused c = let h = refusing c in omega (arith, h .0)
-
-refused-requires : tie.Need-refused-requires
-refused-requires c κs = search needs
-
-enum-known-stage : tie.Need-enum-known-stage
-enum-known-stage c = search needs
-
-slice-aggregate-end-of : tie.Need-slice-aggregate-end-of
-slice-aggregate-end-of c = sym (carried (c .before) .fit .rows)
-
-end-of-requires : tie.Need-end-of-requires
-end-of-requires c κs = search needs
-
-cast-deliver : tie.Need-cast-deliver
-cast-deliver c = let t = carried (c .before .before) in omega (arith, t .fit .few)
-
-array-share-prefix-scratch : tie.Need-array-share-prefix-scratch
-array-share-prefix-scratch c = rw (c .end-of .ensures) (end-inside (carried (c .before .before) .fit))
-
-slice-aggregate-deliver : tie.Need-slice-aggregate-deliver
-slice-aggregate-deliver c = sym (length-take-le _ _ (rw (c .before .end-of .ensures) (end-inside (carried (c .before .before .before) .fit))))
-
-deliver-requires : tie.Need-deliver-requires
-deliver-requires c κs = search needs
-
-returns : tie.Need-returns
-returns c =
-    let k = c .before in
-    let a = k .before .before .before .before .before .before .before .before .before .before .before .args in
-    let x = k .before .refusal .given .0 in
-    seen-update (a .tuple .now) (a .list .now) (a .index-base) (a .out .now) (refusing k .1) (seen-refusal (x .0) (x .1 .0) (a .out .now) (c .refused .ensures))
+update-long-requires : tie.Need-update-long-requires
+update-long-requires c κs = search needs
 
 same-length : tie.Need-same-length
 same-length c = search needs
 
+returns : tie.Need-returns
+returns c = c .before .before .update-long .ensures
+
+update-long-requires-2 : tie.Need-update-long-requires-2
+update-long-requires-2 c κs = search needs
+
+same-length-2 : tie.Need-same-length-2
+same-length-2 c = search needs
+
 returns-2 : tie.Need-returns-2
-returns-2 c =
-    let d = c .before .before in
-    let e = d .before .before .before in
-    let k = e .before .before in
-    let a = k .before .before .before .before .before .before .before .before .before .before .before .args in
-    let t = carried k in
-    seen-update (a .tuple .now) (a .list .now) (a .index-base) (a .out .now) (t .updated ∙ ap bytes (plain-held (t .fit))) (d .deliver .ensures ∙ rw (e .end-of .ensures))
+returns-2 c = c .before .before .update-long2 .ensures
+
+slice-aggregate-update-in : tie.Need-slice-aggregate-update-in
+slice-aggregate-update-in c = search needs
+
+slice-aggregate-update-in-2 : tie.Need-slice-aggregate-update-in-2
+slice-aggregate-update-in-2 c = search needs
+
+update-in-requires : tie.Need-update-in-requires
+update-in-requires c κs = let i = c .before .before .before .before in (λ _. omega (arith, i .if1 .left), omega arith)
+
+enum-known-answer : tie.Need-enum-known-answer
+enum-known-answer c = search needs
+
+enum-told : tie.Need-enum-told
+enum-told c = search needs
+
+update-long-requires-3 : tie.Need-update-long-requires-3
+update-long-requires-3 c κs = search needs
+
+same-length-3 : tie.Need-same-length-3
+same-length-3 c = search needs
+
+returns-3 : tie.Need-returns-3
+returns-3 c =
+    let u = c .before .before .before .before .before .before .before .before .before .before in
+    let a = u .before .before .before .before .before .before .before .before .before .args in
+    let n = rw (c .before .before .before .before .enum-told .given .1) at (u .update-in .ensures) in
+    c .before .before .update-long3 .ensures ∙ ap (updateCall (a .tuple .now) (a .list .now) (a .index-base)) (n .0)
+
+same-length-4 : tie.Need-same-length-4
+same-length-4 c = search needs
+
+returns-4 : tie.Need-returns-4
+returns-4 c = rw (c .before .answer .given .1) at (c .before .before .before .before .before .before .before .update-in .ensures)
 
 pub update-spec : {M : Type 1} → statement M
 update-spec =
     tie.close
     (tie.spec
-    array-borrow-prefix-none
-    slice-aggregate-carry-out
-    carry-out-requires
-    enum-known-refusal
-    cast-refused
-    refused-requires
-    enum-known-stage
-    slice-aggregate-end-of
-    end-of-requires
-    cast-deliver
-    array-share-prefix-scratch
-    slice-aggregate-deliver
-    deliver-requires
-    returns
+    update-long-requires
     same-length
-    returns-2)
+    returns
+    update-long-requires-2
+    same-length-2
+    returns-2
+    slice-aggregate-update-in
+    slice-aggregate-update-in-2
+    update-in-requires
+    enum-known-answer
+    enum-told
+    update-long-requires-3
+    same-length-3
+    returns-3
+    same-length-4
+    returns-4)

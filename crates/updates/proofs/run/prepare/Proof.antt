@@ -1,5 +1,5 @@
 -- The plan of the operation that was got, or its refusal. Assumes nothing.
-use lib.ListN.{drop}
+use lib.ListN.{length, drop}
 use Rattle.tuples.specs.Operation.{operation}
 use Rattle.engine.specs.Held.{fieldsIn}
 use Rattle.updates.specs.Running.{Decodes}
@@ -22,7 +22,7 @@ returns : tie.Need-returns
 returns c =
     let a = c .before .before .before .before .before .before .before .args in
     let d : Decodes (a .base) (a .list .now) Bad (operation (a .base) (drop (a .at) (a .list .now))) = rw (c .enum-told .given .1) at (c .before .before .operation-at .ensures) in
-    prepare-bad (fieldsIn (a .scratch .now) (a .lengths .now) (a .n)) (a .list .now) (a .work .now) (a .at) d
+    prepare-bad (length (a .scratch .now)) (fieldsIn (a .scratch .now) (a .lengths .now) (a .n)) (a .list .now) (a .work .now) (a .at) d
 
 field-of-requires : tie.Need-field-of-requires
 field-of-requires c κs = search needs

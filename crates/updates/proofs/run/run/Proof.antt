@@ -1,5 +1,5 @@
 -- The invariant: what is left to do is what was to be done, and what takes back what is done lies on the undo list. Assumes nothing.
-use mathlib.Core.Path.{_≡_, refl, _∙_}
+use mathlib.Core.Path.{_≡_, refl, sym, _∙_}
 use Prim.Native.Nat.{_-_, _*_, _≤_}
 use native.Mathlib.Omega.{arith}
 use lib.ListN.{length, drop}
@@ -8,40 +8,65 @@ use Rattle.tuples.specs.Operation.{operation}
 use Rattle.engine.specs.Held.{fieldsIn, Fit}
 use Rattle.updates.specs.Running.{Onward, Steps}
 use Rattle.updates.specs.declared.run.Stepped.the-variants.{Stop}
-use Rattle.updates.proofs.Turns.{Sofar, begin, run-stops, run-goes, run-through}
+use Rattle.updates.proofs.Turns.{Sofar, begin, unsure, run-stops, run-goes, run-through}
 use borrow.Author.Needs.{needs}
 use Rattle.updates.proofs.run.run.Statement.{statement}
 use Rattle.updates.proofs.run.run.Tie as tie
 
 abbrev Inv-loop : tie.InvT-loop
-Inv-loop list start count base scratch₀ lengths₀ n work₀ undo₀ stage₀ i₀ scratch lengths work undo stage i = (i ≤ count) × (length undo ≡ length undo₀) × (stage .laid ≤ i * maxFields) × Fit scratch lengths (stage .fields) × Sofar base count (drop start list) (fieldsIn scratch₀ lengths₀ n) list scratch lengths undo stage i
+Inv-loop list start count base scratch₀ lengths₀ n work₀ undo₀ stage₀ i₀ scratch lengths work undo stage i = (i ≤ count) × (length undo ≡ length undo₀) × (stage .laid ≤ i * maxFields) × Fit scratch lengths (stage .fields) × Sofar base count (drop start list) (fieldsIn scratch₀ lengths₀ n) list scratch lengths undo stage i × (length scratch ≡ length scratch₀) × (length work ≡ length work₀)
 
 abbrev μ-loop : tie.MeasureT-loop
 μ-loop list start count base scratch₀ lengths₀ n work₀ undo₀ stage₀ i₀ scratch lengths work undo stage i = count - i
 
 loop-holds : tie.Need-loop-holds Inv-loop μ-loop
 loop-holds c =
-    let o = c .before .before in
+    let o = c .before .before .before .before in
     let a = o .args in
-    (omega arith, refl, omega arith, o .pre .0, begin (a .base) (a .count) (a .list .now) (a .scratch .now) (a .lengths .now) (a .undo .now) (a .n) (a .start))
+    (omega arith, refl, omega arith, o .pre .0, begin (a .base) (a .count) (a .list .now) (a .scratch .now) (a .lengths .now) (a .undo .now) (a .n) (a .start), refl, refl)
 
 step-requires : tie.Need-step-requires Inv-loop μ-loop
-step-requires c κs = let l = c .before .before .before .before .before in (l .loop .inv .3, omega (arith, l .loop .inv .2))
+step-requires c κs =
+    let l = c .before .before .before .before .before in
+    let v = l .loop .inv in
+    ((v .3, omega (arith, v .5, v .6, l .before .before .before .before .before .pre .1)), omega (arith, v .2))
 
 enum-known-refusal : tie.Need-enum-known-refusal Inv-loop μ-loop
 enum-known-refusal c = search needs
 
+certain-requires : tie.Need-certain-requires Inv-loop μ-loop
+certain-requires c κs = search needs
+
 same-length : tie.Need-same-length Inv-loop μ-loop
 same-length c = search needs
 
+same-length-2 : tie.Need-same-length-2 Inv-loop μ-loop
+same-length-2 c = search needs
+
+same-length-3 : tie.Need-same-length-3 Inv-loop μ-loop
+same-length-3 c = search needs
+
 returns : tie.Need-returns Inv-loop μ-loop
 returns c =
-    let t = c .before .before .before .before .before in
+    let k = c .before .before .before in
+    let t = k .before .before .before .before .before .before .before .before in
     let l = t .before .before .before .before .before .before in
-    let a = l .before .before .before .args in
+    let a = l .before .before .before .before .before .args in
     let z = l .loop .stage in
-    let d : Steps (Stop (c .before .refusal .given .0 .0)) (t .step .last .1 .1 .0) (t .step .last .1 .1 .1 .0) (t .step .last .1 .1 .1 .1 .1 .0) (a .list .now) (l .loop .undo) z (operation (a .base) (drop (z .at) (a .list .now))) (fieldsIn (l .loop .scratch) (l .loop .lengths) (z .fields)) = rw (c .before .refusal .given .1) at (t .step .ensures) in
-    (run-stops (l .loop .inv .4) (omega arith) d, omega arith)
+    let d : Steps (length (l .loop .scratch)) (Stop (k .refusal .given .0 .0)) (t .step .last .1 .1 .0) (t .step .last .1 .1 .1 .0) (t .step .last .1 .1 .1 .1 .1 .0) (a .list .now) (l .loop .undo) z (operation (a .base) (drop (z .at) (a .list .now))) (fieldsIn (l .loop .scratch) (l .loop .lengths) (z .fields)) = rw (k .refusal .given .1) at (t .step .ensures) in
+    (run-stops (l .loop .inv .4) (omega arith) (rw (t .step .kept .1 .1 .0) at (sym (c .before .certain .ensures) ∙ c .if1 .taken)) d, omega arith)
+
+same-length-4 : tie.Need-same-length-4 Inv-loop μ-loop
+same-length-4 c = search needs
+
+same-length-5 : tie.Need-same-length-5 Inv-loop μ-loop
+same-length-5 c = search needs
+
+same-length-6 : tie.Need-same-length-6 Inv-loop μ-loop
+same-length-6 c = search needs
+
+returns-2 : tie.Need-returns-2 Inv-loop μ-loop
+returns-2 c = unsure (c .before .before .before .refusal .given .0 .0) _ (sym (c .before .certain .ensures) ∙ c .if1 .left)
 
 enum-known-next : tie.Need-enum-known-next Inv-loop μ-loop
 enum-known-next c = search needs
@@ -54,18 +79,26 @@ loop-less c = search needs
 
 loop-again : tie.Need-loop-again Inv-loop μ-loop
 loop-again c =
-    let t = c .before .before .before .before .before in
+    let t = c .before .before .before .before .before .before .before .before .before in
     let l = t .before .before .before .before .before .before in
-    let a = l .before .before .before .args in
+    let a = l .before .before .before .before .before .args in
     let z = l .loop .stage in
+    let v = l .loop .inv in
+    let k = t .step .kept in
     let o : Onward (c .before .next .given .0 .0) (t .step .last .1 .1 .0) (t .step .last .1 .1 .1 .0) (t .step .last .1 .1 .1 .1 .1 .0) (a .list .now) (l .loop .undo) z (operation (a .base) (drop (z .at) (a .list .now))) (fieldsIn (l .loop .scratch) (l .loop .lengths) (z .fields)) = rw (c .before .next .given .1) at (t .step .ensures) in
-    (omega arith, t .step .kept .1 .1 .1 .1 .1 .0 ∙ l .loop .inv .1, omega (arith, o .few, l .loop .inv .2), o .fit, run-goes (l .loop .inv .4) (omega arith) o)
+    (omega arith, k .1 .1 .1 .1 .1 .0 ∙ v .1, omega (arith, o .few, v .2), o .fit, run-goes (v .4) (omega arith) o, k .1 .1 .0 ∙ v .5, k .1 .1 .1 .1 .0 ∙ v .6)
 
-same-length-2 : tie.Need-same-length-2 Inv-loop μ-loop
-same-length-2 c = search needs
+same-length-7 : tie.Need-same-length-7 Inv-loop μ-loop
+same-length-7 c = search needs
 
-returns-2 : tie.Need-returns-2 Inv-loop μ-loop
-returns-2 c = let l = c .before in run-through (l .loop .inv .4) (omega arith) (l .loop .inv .3)
+same-length-8 : tie.Need-same-length-8 Inv-loop μ-loop
+same-length-8 c = search needs
+
+same-length-9 : tie.Need-same-length-9 Inv-loop μ-loop
+same-length-9 c = search needs
+
+returns-3 : tie.Need-returns-3 Inv-loop μ-loop
+returns-3 c = let l = c .before in run-through (l .loop .inv .4) (omega arith) (l .loop .inv .3)
 
 pub run-spec : {M : Type 1} → statement M
 run-spec =
@@ -76,11 +109,20 @@ run-spec =
     loop-holds
     step-requires
     enum-known-refusal
+    certain-requires
     same-length
+    same-length-2
+    same-length-3
     returns
+    same-length-4
+    same-length-5
+    same-length-6
+    returns-2
     enum-known-next
     add-i
     loop-less
     loop-again
-    same-length-2
-    returns-2)
+    same-length-7
+    same-length-8
+    same-length-9
+    returns-3)
