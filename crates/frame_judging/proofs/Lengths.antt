@@ -73,19 +73,13 @@ module _ (r : Frame) (s : Bytes) where
       let b = map-long (bodyItems r s) (omega arith) in
       rw (header-run r s, body-run r s) (length-append (mapForm (pairs (headerItems r))) (mapForm (pairs (bodyItems r s))) ∙ omega arith)
 
-  module _ (h b : ℕ) (eh : h ≡ capped (length (pairBytes (itemsBetween 0 3 r s)))) (eb : b ≡ capped (length (pairBytes (itemsBetween 3 17 r s)))) where
-    pub contents-counted : h + b ≤ 59998 → h + b + 2 ≡ capped (length (contents (headerItems r) (bodyItems r s)))
-    contents-counted k =
-        let x = counted (length (pairBytes (itemsBetween 0 3 r s))) in
-        let y = counted (length (pairBytes (itemsBetween 3 17 r s))) in
-        let z = contents-long in
-        let c = counted (length (contents (headerItems r) (bodyItems r s))) in
-        omega arith
-
-    pub contents-past : 59998 < h + b → 60001 ≡ capped (length (contents (headerItems r) (bodyItems r s)))
-    contents-past k =
-        let x = counted (length (pairBytes (itemsBetween 0 3 r s))) in
-        let y = counted (length (pairBytes (itemsBetween 3 17 r s))) in
-        let z = contents-long in
-        let c = counted (length (contents (headerItems r) (bodyItems r s))) in
-        omega arith
+  pub contents-counted : {h b : ℕ} → h ≡ capped (length (pairBytes (itemsBetween 0 3 r s))) → b ≡ capped (length (pairBytes (itemsBetween 3 17 r s)))
+      → capped (capped (h + b) + 2) ≡ capped (length (contents (headerItems r) (bodyItems r s)))
+  contents-counted {h} {b} eh eb =
+      let x = counted (length (pairBytes (itemsBetween 0 3 r s))) in
+      let y = counted (length (pairBytes (itemsBetween 3 17 r s))) in
+      let z = contents-long in
+      let u = counted (h + b) in
+      let v = counted (capped (h + b) + 2) in
+      let c = counted (length (contents (headerItems r) (bodyItems r s))) in
+      omega arith

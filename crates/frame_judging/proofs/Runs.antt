@@ -12,7 +12,7 @@ use lib.Seq.{slice, slice-empty, slice-cons}
 use Rattle.first_bytes.specs.Bytes.{Bytes}
 use Rattle.values.specs.Pieces.{joined}
 use Rattle.frames.specs.declared.Frame.{Frame}
-use Rattle.frames.specs.Held.{all, encoded, present, Item, locate}
+use Rattle.frames.specs.Held.{encoded, present, Item, locate}
 use Rattle.frames.specs.Keys.{headerItems, bodyItems}
 use Rattle.frames.specs.Writing.{Pair, onto, pairs, flat}
 use Rattle.frame_items.specs.Content.{heldOf, itemOf, allItems, blank, isWritten, pairLength}
@@ -30,10 +30,6 @@ module _ (r : Frame) (s : Bytes) where
   unfolding itemsBetween allItems headerItems bodyItems
   body-run = refl
 
-  pub whole-run : itemsBetween 0 17 r s ≡ allItems r s
-  unfolding itemsBetween allItems headerItems bodyItems
-  whole-run = refl
-
   pub no-run : (i to : ℕ) → i ≤ to → to ≤ i → itemsBetween i to r s ≡ []
   unfolding itemsBetween
   no-run i to h k = let e : i ≡ to = omega arith in rw e (slice-empty to (allItems r s))
@@ -50,17 +46,6 @@ module _ (r : Frame) (s : Bytes) where
       slice-cons i to (allItems r s) blank h (omega arith)
       ∙ ap (λ (x : Item). x ∷ slice (suc i) to (allItems r s)) (sym e)
       ∙ rw add-one
-
--- ---- 4 and 9
-
-module _ (p : Item → Bool) {xs rest : List Item} {x : Item} (e : xs ≡ x ∷ rest) where
-  pub all-stops : p x ≡ false → all p xs ≡ false
-  unfolding all
-  all-stops h = rw (e, h)
-
-  pub all-goes-on : p x ≡ true → all p rest ≡ all p xs
-  unfolding all
-  all-goes-on h = rw (e, h)
 
 -- ---- 10
 

@@ -1,2 +1,3 @@
--- Runs of a record's items.
+-- What the writer asks of a record.
 pub mod Parts
+pub mod Judged

@@ -1,45 +1,22 @@
 // What the writer refuses, judged over a record: its values, their types, its required keys, its length.
+use frame_items::Content;
 use frames::Frame;
 ghost use mathlib.Core.Path.{_≡_};
 ghost use Prim.Native.Nat.{ℕ, _+_, _≤_};
-ghost use lib.ListN.{length};
-ghost use Rattle.frames.specs.Held.{all, suits, encoded, present, Item, locate};
-ghost use Rattle.frames.specs.Keys.{headerItems, bodyItems};
-ghost use Rattle.frames.specs.Writing.{contents, sound};
-ghost use Rattle.frame_items.specs.Content.{allItems, capped};
-ghost use Rattle.frame_judging.specs.Parts.{itemsBetween, pairBytes};
+ghost use Rattle.first_bytes.specs.Bytes.{pick};
+ghost use Rattle.frames.specs.Held.{all, encoded, present, locate};
+ghost use Rattle.frames.specs.Keys.{bodyItems};
+ghost use Rattle.frame_items.specs.Content.{isWritten, capped};
+ghost use Rattle.frame_judging.specs.Parts.{itemsBetween};
+ghost use Rattle.frame_judging.specs.Judged.{Judged};
 
-// 4, over header and body.
-pub fn all_sound(frame: Frame, bytes: &[u8]) -> bool
-    ensures { λ r. ⌜ r ≡ all (λ (x : Item). sound (x .held)) (allItems frame (now (bytes .entry))) ⌝ }
-{
-    let mut i: usize = 0;
-    while i < 17 {
-        let known = frame_keys::known_key(frame, bytes, i);
-        let content = known.content;
-        if !frame_items::is_sound(bytes, content) {
-            return false;
-        }
-        i += 1;
-    }
-    true
-}
-
-// 9, over header and body.
-pub fn all_suit(frame: Frame, bytes: &[u8]) -> bool
-    ensures { λ r. ⌜ r ≡ all (λ (x : Item). suits (x .rule) (x .held)) (allItems frame (now (bytes .entry))) ⌝ }
-{
-    let mut i: usize = 0;
-    while i < 17 {
-        let known = frame_keys::known_key(frame, bytes, i);
-        let rule = known.rule;
-        let content = known.content;
-        if !frame_items::content_suits(bytes, rule, content) {
-            return false;
-        }
-        i += 1;
-    }
-    true
+// What the writer asks of a run of known keys: 4, 9, how many pairs it writes, and how long they
+// are together, counted up to 60,001.
+pub struct Judgement {
+    pub sound: bool,
+    pub suited: bool,
+    pub count: u32,
+    pub length: usize,
 }
 
 // Whether the body holds a key.
@@ -82,30 +59,48 @@ fn capped_sum(a: usize, b: usize) -> usize
     60_001
 }
 
-// How long the pairs of the keys from one on and up to another are.
-fn pairs_length(frame: Frame, bytes: &[u8], from: usize, to: usize) -> usize
-    requires { ⌜ (from ≤ to) × (to ≤ 17) ⌝ }
-    ensures { λ r. ⌜ r ≡ capped (length (pairBytes (itemsBetween from to frame (now (bytes .entry))))) ⌝ }
+fn pairs_of(content: Content) -> u32
+    ensures { λ r. ⌜ (r ≡ pick (isWritten content) 1 0) × (r ≤ 1) ⌝ }
 {
-    let mut total: usize = 0;
+    if frame_items::is_written(content) {
+        1
+    } else {
+        0
+    }
+}
+
+// The keys from one on and up to another. One pass, since looking a key up takes longest.
+pub fn judged(frame: Frame, bytes: &[u8], from: usize, to: usize) -> Judgement
+    requires { ⌜ (from ≤ to) × (to ≤ 17) ⌝ }
+    ensures { λ r. ⌜ Judged (itemsBetween from to frame (now (bytes .entry))) r ⌝ }
+{
+    let mut sound = true;
+    let mut suited = true;
+    let mut count: u32 = 0;
+    let mut length: usize = 0;
     let mut i = from;
     while i < to {
         let known = frame_keys::known_key(frame, bytes, i);
+        let rule = known.rule;
         let content = known.content;
-        total = capped_sum(total, frame_items::pair_length(bytes, content));
+        sound = sound & frame_items::is_sound(bytes, content);
+        suited = suited & frame_items::content_suits(bytes, rule, content);
+        count += pairs_of(content);
+        length = capped_sum(length, frame_items::pair_length(bytes, content));
         i += 1;
     }
-    total
+    Judgement {
+        sound,
+        suited,
+        count,
+        length,
+    }
 }
 
-// How long header and body are, each with a header of one byte; counted up to 60,001.
-pub fn contents_length(frame: Frame, bytes: &[u8]) -> usize
-    ensures { λ r. ⌜ r ≡ capped (length (contents (headerItems frame) (bodyItems frame (now (bytes .entry))))) ⌝ }
+// How long header and body are, each with a header of one byte.
+pub fn contents_length(header: usize, body: usize) -> usize
+    requires { ⌜ (header ≤ 60001) × (body ≤ 60001) ⌝ }
+    ensures { λ r. ⌜ r ≡ capped (capped (header + body) + 2) ⌝ }
 {
-    let header = pairs_length(frame, bytes, 0, 3);
-    let body = pairs_length(frame, bytes, 3, 17);
-    if header + body <= 59_998 {
-        return header + body + 2;
-    }
-    60_001
+    capped_sum(capped_sum(header, body), 2)
 }

@@ -15,24 +15,6 @@ ghost use Rattle.frame_items.specs.Content.{heldOf};
 ghost use Rattle.frame_judging.specs.Parts.{itemsBetween, pairBytes, pairOf};
 ghost use Rattle.frame_writing.specs.Answer.{refusal};
 
-// How many of the keys from one on and up to another are written.
-fn count_pairs(frame: Frame, bytes: &[u8], from: usize, to: usize) -> u32
-    requires { ⌜ (from ≤ to) × (to ≤ 17) ⌝ }
-    ensures { λ r. ⌜ r ≡ length (pairs (itemsBetween from to frame (now (bytes .entry)))) ⌝ }
-{
-    let mut count: u32 = 0;
-    let mut i = from;
-    while i < to {
-        let known = frame_keys::known_key(frame, bytes, i);
-        let content = known.content;
-        if frame_items::is_written(content) {
-            count += 1;
-        }
-        i += 1;
-    }
-    count
-}
-
 // A key below 128 is one byte; what it holds follows.
 fn put_number(out: &mut [u8], at: usize, key: u8, n: u64) -> usize
     requires { ⌜ at + length (key ∷ unsignedForm n) ≤ length (now out) ⌝ }
@@ -84,26 +66,42 @@ fn put_pairs(out: &mut [u8], at: usize, frame: Frame, bytes: &[u8], from: usize,
 }
 
 // A whole map of them, with its header.
-fn put_map(out: &mut [u8], at: usize, frame: Frame, bytes: &[u8], from: usize, to: usize) -> usize
-    requires { ⌜ ((from ≤ to) × (to ≤ 17)) × (at + length (mapForm (pairs (itemsBetween from to frame (now bytes)))) ≤ length (now out)) ⌝ }
+fn put_map(
+    out: &mut [u8],
+    at: usize,
+    frame: Frame,
+    bytes: &[u8],
+    from: usize,
+    to: usize,
+    count: u32,
+) -> usize
+    requires { ⌜ (((from ≤ to) × (to ≤ 17)) × (count ≡ length (pairs (itemsBetween from to frame (now bytes)))))
+        × (at + length (mapForm (pairs (itemsBetween from to frame (now bytes)))) ≤ length (now out)) ⌝ }
     ensures { λ r. ⌜ (r ≡ next at (mapForm (pairs (itemsBetween from to frame (now (bytes .entry))))) (now (out .entry)))
         × (now (out .exit) ≡ put at (mapForm (pairs (itemsBetween from to frame (now (bytes .entry))))) (now (out .entry))) ⌝ }
 {
-    let count = count_pairs(frame, bytes, from, to);
     let a = headers::write_map_header(out, at, count);
     put_pairs(out, a, frame, bytes, from, to)
 }
 
-// Size, header, body.
-fn put_frame(out: &mut [u8], frame: Frame, bytes: &[u8], size: usize) -> usize
-    requires { ⌜ (size ≡ length (contents (headerItems frame) (bodyItems frame (now bytes))))
+// Size, header, body, by what was counted of them.
+fn put_frame(
+    out: &mut [u8],
+    frame: Frame,
+    bytes: &[u8],
+    size: usize,
+    header: u32,
+    body: u32,
+) -> usize
+    requires { ⌜ ((size ≡ length (contents (headerItems frame) (bodyItems frame (now bytes))))
+        × ((header ≡ length (pairs (itemsBetween 0 3 frame (now bytes)))) × (body ≡ length (pairs (itemsBetween 3 17 frame (now bytes))))))
         × (length (frameForm (contents (headerItems frame) (bodyItems frame (now bytes)))) ≤ length (now out)) ⌝ }
     ensures { λ r. ⌜ (r ≡ next 0 (frameForm (contents (headerItems frame) (bodyItems frame (now (bytes .entry))))) (now (out .entry)))
         × (now (out .exit) ≡ put 0 (frameForm (contents (headerItems frame) (bodyItems frame (now (bytes .entry))))) (now (out .entry))) ⌝ }
 {
     let a = writing::write_tagged(out, 0, 0xce, size as u64, 4);
-    let b = put_map(out, a, frame, bytes, 0, 3);
-    put_map(out, b, frame, bytes, 3, 17)
+    let b = put_map(out, a, frame, bytes, 0, 3, header);
+    put_map(out, b, frame, bytes, 3, 17, body)
 }
 
 fn refused(number: u32) -> Written
@@ -121,8 +119,10 @@ pub fn write_frame(frame: Frame, bytes: &[u8], out: &mut [u8]) -> Written
     if !needs.known {
         return refused(8);
     }
-    let sound = frame_judging::all_sound(frame, bytes);
-    let suited = frame_judging::all_suit(frame, bytes);
+    let header = frame_judging::judged(frame, bytes, 0, 3);
+    let body = frame_judging::judged(frame, bytes, 3, 17);
+    let sound = header.sound & body.sound;
+    let suited = header.suited & body.suited;
     if !sound {
         return refused(4);
     }
@@ -134,13 +134,13 @@ pub fn write_frame(frame: Frame, bytes: &[u8], out: &mut [u8]) -> Written
     if !frame_judging::holds_all(frame, bytes, &keys[..count]) {
         return refused(10);
     }
-    let size = frame_judging::contents_length(frame, bytes);
+    let size = frame_judging::contents_length(header.length, body.length);
     if 60_000 < size {
         return refused(3);
     }
     if out.len() < size + 5 {
         return refused(18);
     }
-    let length = put_frame(out, frame, bytes, size);
+    let length = put_frame(out, frame, bytes, size, header.count, body.count);
     Written { number: 0, length }
 }

@@ -1,6 +1,6 @@
 // One MessagePack value at a place of a slice, held to a depth.
 ghost use mathlib.Core.Path.{_≡_};
-ghost use Prim.Native.Nat.{_+_, _*_, _^_, _<_, _≤_};
+ghost use Prim.Native.Nat.{_+_, _-_, _*_, _^_, _<_, _≤_};
 ghost use lib.ListN.{length, take, drop, getD};
 ghost use Rattle.first_bytes.specs.FirstByte.{formOf};
 ghost use Rattle.values.specs.Number.{number, numberAt, Below};
@@ -218,6 +218,15 @@ fn opened(s: &[u8], at: usize, depth: usize) -> Opening
     Opening::Fails(at)
 }
 
+// The n items from `at` on of a container that may have depth `depth`. If `read_values` called itself,
+// the compiler would hand it the slice through memory.
+fn read_items(s: &[u8], at: usize, n: usize, depth: usize) -> Read
+    requires { ⌜ (n < 2 ^ 34) × (0 < depth) ⌝ }
+    ensures { λ r. ⌜ r ≡ shift at (items (value (depth - 1)) n (drop at (now (s .entry)))) ⌝ }
+{
+    read_values(s, at, n, depth - 1)
+}
+
 // The n values from `at` on, each of depth at most `most`. It goes down by a call, but to the last
 // one's values by the loop: nests of one value each are the common deep ones.
 fn read_values(s: &[u8], at: usize, n: usize, most: usize) -> Read
@@ -242,7 +251,7 @@ fn read_values(s: &[u8], at: usize, n: usize, most: usize) -> Read
                     left = count;
                     depth -= 1;
                 } else {
-                    match read_values(s, from, count, depth - 1) {
+                    match read_items(s, from, count, depth) {
                         Read::Whole(next) => {
                             end = next;
                             left -= 1;

@@ -14,8 +14,8 @@ put-map-requires c κs =
     let w = c .before .before .before in
     let s = w .before .before .before .before in
     let a = s .args in
-    let t = size-turn (a .frame) (a .bytes .now) (a .size) (s .pre .0) (s .pre .1) (w .write-tagged .ensures) in
-    ((omega arith, omega arith), first-room (headerForm (a .frame) (a .bytes .now)) (bodyForm (a .frame) (a .bytes .now)) (w .write-tagged .result) refl (t .room))
+    let t = size-turn (a .frame) (a .bytes .now) (a .size) (s .pre .0 .0) (s .pre .1) (w .write-tagged .ensures) in
+    (((omega arith, omega arith), s .pre .0 .1 .0), first-room (headerForm (a .frame) (a .bytes .now)) (bodyForm (a .frame) (a .bytes .now)) (w .write-tagged .result) refl (t .room))
 
 put-map-requires-2 : tie.Need-put-map-requires-2
 put-map-requires-2 c κs =
@@ -23,8 +23,8 @@ put-map-requires-2 c κs =
     let w = q .before .before .before .before in
     let s = w .before .before .before .before in
     let a = s .args in
-    let t = size-turn (a .frame) (a .bytes .now) (a .size) (s .pre .0) (s .pre .1) (w .write-tagged .ensures) in
-    ((omega arith, omega arith), turn-on t (headerForm (a .frame) (a .bytes .now)) refl (q .put-map .ensures) .room)
+    let t = size-turn (a .frame) (a .bytes .now) (a .size) (s .pre .0 .0) (s .pre .1) (w .write-tagged .ensures) in
+    (((omega arith, omega arith), s .pre .0 .1 .1), turn-on t (headerForm (a .frame) (a .bytes .now)) refl (q .put-map .ensures) .room)
 
 same-length : tie.Need-same-length
 same-length c = search needs
@@ -36,7 +36,7 @@ returns c =
     let w = q .before .before .before .before in
     let s = w .before .before .before .before in
     let a = s .args in
-    let t = size-turn (a .frame) (a .bytes .now) (a .size) (s .pre .0) (s .pre .1) (w .write-tagged .ensures) in
+    let t = size-turn (a .frame) (a .bytes .now) (a .size) (s .pre .0 .0) (s .pre .1) (w .write-tagged .ensures) in
     let u = turn-on t (headerForm (a .frame) (a .bytes .now)) refl (q .put-map .ensures) in
     (p .put-map2 .ensures .0 ∙ u .end, p .put-map2 .ensures .1 ∙ u .is)
 

@@ -7,20 +7,16 @@ use borrow.Author.Needs.{needs}
 use Rattle.frame_writing.proofs.put_map.Statement.{statement}
 use Rattle.frame_writing.proofs.put_map.Tie as tie
 
-count-pairs-requires : tie.Need-count-pairs-requires
-count-pairs-requires c κs = search needs
-
 write-map-header-requires : tie.Need-write-map-header-requires
 write-map-header-requires c κs = search needs
 
 put-pairs-requires : tie.Need-put-pairs-requires
 put-pairs-requires c κs =
     let w = c .before .before .before in
-    let n = w .before .before in
-    let s = n .before .before .before in
+    let s = w .before .before .before .before in
     let a = s .args in
-    let t = turn (a .out .now) (a .at) (mapHeader (n .count-pairs .result)) (map-first (itemsBetween (a .from) (a .to) (a .frame) (a .bytes .now)) (n .count-pairs .ensures)) (s .pre .1) (w .write-map-header .ensures) in
-    (s .pre .0, t .room)
+    let t = turn (a .out .now) (a .at) (mapHeader (a .count)) (map-first (itemsBetween (a .from) (a .to) (a .frame) (a .bytes .now)) (s .pre .0 .1)) (s .pre .1) (w .write-map-header .ensures) in
+    (s .pre .0 .0, t .room)
 
 same-length : tie.Need-same-length
 same-length c = search needs
@@ -29,17 +25,15 @@ returns : tie.Need-returns
 returns c =
     let q = c .before .before in
     let w = q .before .before .before .before in
-    let n = w .before .before in
-    let s = n .before .before .before in
+    let s = w .before .before .before .before in
     let a = s .args in
-    let t = turn (a .out .now) (a .at) (mapHeader (n .count-pairs .result)) (map-first (itemsBetween (a .from) (a .to) (a .frame) (a .bytes .now)) (n .count-pairs .ensures)) (s .pre .1) (w .write-map-header .ensures) in
+    let t = turn (a .out .now) (a .at) (mapHeader (a .count)) (map-first (itemsBetween (a .from) (a .to) (a .frame) (a .bytes .now)) (s .pre .0 .1)) (s .pre .1) (w .write-map-header .ensures) in
     (q .put-pairs .ensures .0 ∙ t .end, q .put-pairs .ensures .1 ∙ t .is)
 
 pub put-map-spec : {M : Type 1} → statement M
 put-map-spec =
     tie.close
     (tie.spec
-    count-pairs-requires
     write-map-header-requires
     put-pairs-requires
     same-length

@@ -1,6 +1,6 @@
 -- Each refusal in its order, then the bytes. Assumes nothing.
 use mathlib.Core.Path.{_≡_, sym, _∙_}
-use mathlib.Core.Bool.{true}
+use mathlib.Core.Bool.{true, _&&_}
 use mathlib.Core.Option.{some}
 use Prim.Native.Nat.{_≤_}
 use native.Mathlib.Omega.{arith}
@@ -8,33 +8,57 @@ use borrow.Author.Tests.{not-true, not-false}
 use lib.ListN.{length, take}
 use lib.Seq.{length-take-le}
 use Rattle.frames.specs.Codes.{required}
-use Rattle.frame_judging.proofs.Lengths.{capped-within, capped-past}
-use Rattle.frame_writing.proofs.Calls.{Sound, Suited, There, contentsOf, call-8, call-4, call-9, call-10, call-3, call-18, call-0, no-needs, some-needs, form-long}
+use Rattle.frames.specs.Held.{suits as suitsRule, Item}
+use Rattle.frames.specs.Writing.{sound as soundHeld}
+use Rattle.frame_items.specs.Content.{capped}
+use Rattle.frame_judging.proofs.Lengths.{capped-few, capped-within, capped-past, contents-counted}
+use Rattle.frame_writing.proofs.Calls.{both, Sound, Suited, There, contentsOf, call-8, call-4, call-9, call-10, call-3, call-18, call-0, no-needs, some-needs, form-long}
 use borrow.Author.Needs.{needs}
 use Rattle.frame_writing.proofs.write_frame.Statement.{statement}
 use Rattle.frame_writing.proofs.write_frame.Tie as tie
 
+-- the place of the judgement, and of what the code requires
+abbrev judging : tie.After-holds-all → tie.After-judged2
+judging c = c .before .before .before .before .before .before .before .before .before
+
+abbrev asking : tie.After-judged2 → tie.After-needs-of
+asking c = c .before .before .before .before
+
 -- what is known behind each test
-known : (c : tie.After-all-sound)
-    → (let n = c .before .before .before in some (take (n .needs-of .result .count) (n .needs-of .result .keys)) ≡ required (n .before .before .before .args .frame .code))
-known c = let n = c .before .before .before in some-needs (n .needs-of .result) (n .needs-of .ensures .0) (not-false _ (c .before .if1 .left))
+known : (c : tie.After-judged2)
+    → (let n = asking c in some (take (n .needs-of .result .count) (n .needs-of .result .keys)) ≡ required (n .before .before .before .args .frame .code))
+known c = let n = asking c in some-needs (n .needs-of .result) (n .needs-of .ensures .0) (not-false _ (c .before .before .if1 .left))
 
-whole : (c : tie.After-holds-all) → (let a = c .before .before .before .before .before .before .before .before .before .before .before .before .args in Sound (a .frame) (a .bytes .now) true)
-whole c = sym (not-false _ (c .before .before .before .before .if2 .left)) ∙ c .before .before .before .before .before .before .all-sound .ensures
+four : (c : tie.After-judged2) → (let a = asking c .before .before .before .args in Sound (a .frame) (a .bytes .now) (c .before .judged .result .sound && c .judged2 .result .sound))
+four c = let a = asking c .before .before .before .args in both (a .frame) (a .bytes .now) (λ (x : Item). soundHeld (x .held)) (c .before .judged .ensures .four) (c .judged2 .ensures .four)
 
-suited : (c : tie.After-holds-all) → (let a = c .before .before .before .before .before .before .before .before .before .before .before .before .args in Suited (a .frame) (a .bytes .now) true)
-suited c = sym (not-false _ (c .before .before .before .if3 .left)) ∙ c .before .before .before .before .before .all-suit .ensures
+nine : (c : tie.After-judged2) → (let a = asking c .before .before .before .args in Suited (a .frame) (a .bytes .now) (c .before .judged .result .suited && c .judged2 .result .suited))
+nine c = let a = asking c .before .before .before .args in both (a .frame) (a .bytes .now) (λ (x : Item). suitsRule (x .rule) (x .held)) (c .before .judged .ensures .nine) (c .judged2 .ensures .nine)
+
+whole : (c : tie.After-holds-all) → (let a = asking (judging c) .before .before .before .args in Sound (a .frame) (a .bytes .now) true)
+whole c = sym (not-false _ (c .before .before .before .before .if2 .left)) ∙ four (judging c)
+
+suited : (c : tie.After-holds-all) → (let a = asking (judging c) .before .before .before .args in Suited (a .frame) (a .bytes .now) true)
+suited c = sym (not-false _ (c .before .before .before .if3 .left)) ∙ nine (judging c)
 
 there : (c : tie.After-contents-length)
-    → (let n = c .before .before .before .before .before .before .before .before .before .before .before in
+    → (let n = asking (judging (c .before .before)) in
     let a = n .before .before .before .args in
     There (a .frame) (a .bytes .now) (take (n .needs-of .result .count) (n .needs-of .result .keys)) true)
 there c = sym (not-false _ (c .before .if4 .left)) ∙ c .before .before .holds-all .ensures
 
+counted : (c : tie.After-contents-length)
+    → (let a = asking (judging (c .before .before)) .before .before .before .args in
+    c .contents-length .result ≡ capped (length (contentsOf (a .frame) (a .bytes .now))))
+counted c =
+    let j = judging (c .before .before) in
+    let a = asking j .before .before .before .args in
+    c .contents-length .ensures ∙ contents-counted (a .frame) (a .bytes .now) (j .before .judged .ensures .long) (j .judged2 .ensures .long)
+
 sized : (c : tie.After-contents-length) → c .contents-length .result ≤ 60000
-    → (let a = c .before .before .before .before .before .before .before .before .before .before .before .before .before .before .args in
+    → (let a = asking (judging (c .before .before)) .before .before .before .args in
     c .contents-length .result ≡ length (contentsOf (a .frame) (a .bytes .now)))
-sized c h = let e = c .contents-length .ensures in e ∙ capped-within _ (omega arith)
+sized c h = let e = counted c in e ∙ capped-within _ (omega arith)
 
 needs-of-requires : tie.Need-needs-of-requires
 needs-of-requires c κs = search needs
@@ -48,39 +72,38 @@ returns c =
     let a = n .before .before .before .args in
     rw (c .refused .ensures) (call-8 (a .frame) (a .bytes .now) (a .out .now) (no-needs (n .needs-of .result) (n .needs-of .ensures .0) (not-true _ (c .before .if1 .taken))))
 
-all-sound-requires : tie.Need-all-sound-requires
-all-sound-requires c κs = search needs
+judged-requires : tie.Need-judged-requires
+judged-requires c κs = search needs
 
-all-suit-requires : tie.Need-all-suit-requires
-all-suit-requires c κs = search needs
+judged-requires-2 : tie.Need-judged-requires-2
+judged-requires-2 c κs = search needs
 
 refused-requires-2 : tie.Need-refused-requires-2
 refused-requires-2 c κs = search needs
 
 returns-2 : tie.Need-returns-2
 returns-2 c =
-    let p = c .before .before .before in
-    let n = p .before .before .before in
+    let j = c .before .before .before .before .before .before in
+    let n = asking j in
     let a = n .before .before .before .args in
-    rw (c .refused2 .ensures) (call-4 (a .frame) (a .bytes .now) (a .out .now) (take (n .needs-of .result .count) (n .needs-of .result .keys)) (known p) (sym (not-true _ (c .before .if2 .taken)) ∙ p .all-sound .ensures))
+    rw (c .refused2 .ensures) (call-4 (a .frame) (a .bytes .now) (a .out .now) (take (n .needs-of .result .count) (n .needs-of .result .keys)) (known j) (sym (not-true _ (c .before .if2 .taken)) ∙ four j))
 
 refused-requires-3 : tie.Need-refused-requires-3
 refused-requires-3 c κs = search needs
 
 returns-3 : tie.Need-returns-3
 returns-3 c =
-    let q = c .before .before .before in
-    let p = q .before in
-    let n = p .before .before .before in
+    let j = c .before .before .before .before .before .before .before in
+    let n = asking j in
     let a = n .before .before .before .args in
-    rw (c .refused3 .ensures) (call-9 (a .frame) (a .bytes .now) (a .out .now) (take (n .needs-of .result .count) (n .needs-of .result .keys)) (known p) (sym (not-false _ (c .before .before .if2 .left)) ∙ p .all-sound .ensures) (sym (not-true _ (c .before .if3 .taken)) ∙ q .all-suit .ensures))
+    rw (c .refused3 .ensures) (call-9 (a .frame) (a .bytes .now) (a .out .now) (take (n .needs-of .result .count) (n .needs-of .result .keys)) (known j) (sym (not-false _ (c .before .before .if2 .left)) ∙ four j) (sym (not-true _ (c .before .if3 .taken)) ∙ nine j))
 
 array-share-prefix-keys : tie.Need-array-share-prefix-keys
 array-share-prefix-keys c = search needs
 
 slice-aggregate-holds-all : tie.Need-slice-aggregate-holds-all
 slice-aggregate-holds-all c =
-    let n = c .before .before .before .before .before .before .before .before in
+    let n = asking (c .before .before .before .before .before .before .before .before) in
     sym (length-take-le _ (n .needs-of .result .keys) (n .needs-of .ensures .1))
 
 holds-all-requires : tie.Need-holds-all-requires
@@ -92,13 +115,12 @@ refused-requires-4 c κs = search needs
 returns-4 : tie.Need-returns-4
 returns-4 c =
     let h = c .before .before in
-    let p = h .before .before .before .before .before .before in
-    let n = p .before .before .before in
+    let n = asking (judging h) in
     let a = n .before .before .before .args in
-    rw (c .refused4 .ensures) (call-10 (a .frame) (a .bytes .now) (a .out .now) (take (n .needs-of .result .count) (n .needs-of .result .keys)) (known p) (whole h) (suited h) (sym (not-true _ (c .before .if4 .taken)) ∙ h .holds-all .ensures))
+    rw (c .refused4 .ensures) (call-10 (a .frame) (a .bytes .now) (a .out .now) (take (n .needs-of .result .count) (n .needs-of .result .keys)) (known (judging h)) (whole h) (suited h) (sym (not-true _ (c .before .if4 .taken)) ∙ h .holds-all .ensures))
 
 contents-length-requires : tie.Need-contents-length-requires
-contents-length-requires c κs = search needs
+contents-length-requires c κs = let j = judging (c .before) in (rw (j .before .judged .ensures .long) (capped-few _), rw (j .judged2 .ensures .long) (capped-few _))
 
 refused-requires-5 : tie.Need-refused-requires-5
 refused-requires-5 c κs = search needs
@@ -107,11 +129,10 @@ returns-5 : tie.Need-returns-5
 returns-5 c =
     let l = c .before .before in
     let h = l .before .before in
-    let p = h .before .before .before .before .before .before in
-    let n = p .before .before .before in
+    let n = asking (judging h) in
     let a = n .before .before .before .args in
-    let e = l .contents-length .ensures in
-    rw (c .refused5 .ensures) (call-3 (a .frame) (a .bytes .now) (a .out .now) (take (n .needs-of .result .count) (n .needs-of .result .keys)) (known p) (whole h) (suited h) (there l) (capped-past (length (contentsOf (a .frame) (a .bytes .now))) (omega arith)))
+    let e = counted l in
+    rw (c .refused5 .ensures) (call-3 (a .frame) (a .bytes .now) (a .out .now) (take (n .needs-of .result .count) (n .needs-of .result .keys)) (known (judging h)) (whole h) (suited h) (there l) (capped-past (length (contentsOf (a .frame) (a .bytes .now))) (omega arith)))
 
 add-if6 : tie.Need-add-if6
 add-if6 c = search needs
@@ -123,23 +144,21 @@ returns-6 : tie.Need-returns-6
 returns-6 c =
     let l = c .before .before .before in
     let h = l .before .before in
-    let p = h .before .before .before .before .before .before in
-    let n = p .before .before .before in
+    let n = asking (judging h) in
     let a = n .before .before .before .args in
     let e = sized l (c .before .before .if5 .left) in
     let f = form-long (contentsOf (a .frame) (a .bytes .now)) in
-    rw (c .refused6 .ensures) (call-18 (a .frame) (a .bytes .now) (a .out .now) (take (n .needs-of .result .count) (n .needs-of .result .keys)) (known p) (whole h) (suited h) (there l) (omega arith) (omega arith))
+    rw (c .refused6 .ensures) (call-18 (a .frame) (a .bytes .now) (a .out .now) (take (n .needs-of .result .count) (n .needs-of .result .keys)) (known (judging h)) (whole h) (suited h) (there l) (omega arith) (omega arith))
 
 put-frame-requires : tie.Need-put-frame-requires
 put-frame-requires c κs =
     let l = c .before .before .before in
     let h = l .before .before in
-    let p = h .before .before .before .before .before .before in
-    let n = p .before .before .before in
+    let n = asking (judging h) in
     let a = n .before .before .before .args in
     let e = sized l (c .before .before .if5 .left) in
     let f = form-long (contentsOf (a .frame) (a .bytes .now)) in
-    (e, omega arith)
+    ((e, (judging h .before .judged .ensures .many, judging h .judged2 .ensures .many)), omega arith)
 
 same-length : tie.Need-same-length
 same-length c = search needs
@@ -148,14 +167,13 @@ returns-7 : tie.Need-returns-7
 returns-7 c =
     let l = c .before .before .before .before .before .before in
     let h = l .before .before in
-    let p = h .before .before .before .before .before .before in
-    let n = p .before .before .before in
+    let n = asking (judging h) in
     let a = n .before .before .before .args in
     let i = c .before .before .before .before .before .if5 .left in
     let j = c .before .before .before .before .if6 .left in
     let e = sized l i in
     let f = form-long (contentsOf (a .frame) (a .bytes .now)) in
-    call-0 (a .frame) (a .bytes .now) (a .out .now) (take (n .needs-of .result .count) (n .needs-of .result .keys)) (known p) (whole h) (suited h) (there l) (omega arith) (omega arith) (c .before .before .put-frame .ensures)
+    call-0 (a .frame) (a .bytes .now) (a .out .now) (take (n .needs-of .result .count) (n .needs-of .result .keys)) (known (judging h)) (whole h) (suited h) (there l) (omega arith) (omega arith) (c .before .before .put-frame .ensures)
 
 pub write-frame-spec : {M : Type 1} → statement M
 write-frame-spec =
@@ -164,8 +182,8 @@ write-frame-spec =
     needs-of-requires
     refused-requires
     returns
-    all-sound-requires
-    all-suit-requires
+    judged-requires
+    judged-requires-2
     refused-requires-2
     returns-2
     refused-requires-3

@@ -1,5 +1,6 @@
--- `read_values` is the values one after the other. It ends since the depth falls at each call of itself; its loop, since a value is passed or the depth falls.
--- The loop's invariant: what is still to be read from here is what was to be read from the start. Assumes nothing.
+-- `read_values` is the values one after the other, `read_items` those of a container. They call each other; the measure is the depth that is left, twice, and one more
+-- for `read_values`. Its loop ends since a value is passed or the depth falls; the invariant: what is still to be read from here is what was to be read from the start.
+-- Assumes nothing.
 use borrow.Author.Needs.{needs}
 use native.Mathlib.Omega.{arith}
 use native.Mathlib.Nat.{add-zero}
@@ -13,20 +14,41 @@ use Rattle.values.specs.Value.{shift, items, value}
 use Rattle.values.specs.declared.Read.the-variants.{Whole}
 use Rattle.values.proofs.Laws as Laws
 use Rattle.values.proofs.opened.Reads as opened
+use Rattle.values.proofs.read_items.Reads as read-items
+use Rattle.values.proofs.read_items.Kinds as read-items-kinds
+use Rattle.values.proofs.+read_items+read_values.Lts-read_items as read-items-lts
 use Rattle.values.proofs.read_values.Reads as read-values
 use Rattle.values.proofs.read_values.Kinds as kinds
-use Rattle.values.proofs.+read_values.Lts-read_values as lts
-use Rattle.values.proofs.+read_values.{statement}
-use Rattle.values.proofs.+read_values.Tie.{close}
+use Rattle.values.proofs.+read_items+read_values.Lts-read_values as lts
+use Rattle.values.proofs.+read_items+read_values.{statement}
+use Rattle.values.proofs.+read_items+read_values.Tie.{close}
+
+abbrev μ-items : Measures 1 read-items-kinds.ps ℕ
+μ-items κs a = 2 * a .1 .1 .1 .0
 
 abbrev μ : Measures 1 kinds.ps ℕ
-μ κs a = a .1 .1 .1 .0
+μ κs a = 2 * a .1 .1 .1 .0 + 1
+
+abbrev given-items : ℕ → In 1 read-items-kinds.ps
+given-items t = and 1 read-items-kinds.ps (is 1 read-items-kinds.ps μ-items t) read-items.Pre
 
 abbrev given : ℕ → In 1 kinds.ps
 given t = and 1 kinds.ps (is 1 kinds.ps μ t) read-values.Pre
 
+abbrev items-calls : ℕ → read-items-lts.Claims
+items-calls t = (and 1 kinds.ps (falls 1 kinds.ps _<_ μ t) read-values.Pre, read-values.Post)
+
 abbrev calls : ℕ → lts.Claims
-calls t = (opened.Asked, opened.Learnt, and 1 kinds.ps (falls 1 kinds.ps _<_ μ t) read-values.Pre, read-values.Post)
+calls t = (opened.Asked, opened.Learnt, and 1 read-items-kinds.ps (falls 1 read-items-kinds.ps _<_ μ-items t) read-items.Pre, read-items.Post)
+
+sub-read-values : (t : ℕ) → read-items-lts.Need-sub-read-values (items-calls t) (given-items t) read-items.Post
+sub-read-values t c = search needs
+
+read-values-requires : (t : ℕ) → read-items-lts.Need-read-values-requires (items-calls t) (given-items t) read-items.Post
+read-values-requires t c κs = (omega arith, omega arith)
+
+items-returns : (t : ℕ) → read-items-lts.Need-returns (items-calls t) (given-items t) read-items.Post
+items-returns t c = c .read-values .ensures
 
 abbrev Inv-loop : lts.InvT-loop
 Inv-loop s at n most end₀ left₀ depth₀ end left depth =
@@ -111,15 +133,10 @@ loop-again-2 t c =
     let i = rw (c .if1 .taken) at (l .inv .0) in
     (i ∙ Laws.items-one (value (l .depth)) (a .s .now) (l .end) ∙ h .same, (h .fits, omega arith))
 
-sub-read-values : (t : ℕ) → lts.Need-sub-read-values (calls t) (given t) read-values.Post Inv-loop μ-loop
-sub-read-values t c =
+read-items-requires : (t : ℕ) → lts.Need-read-items-requires (calls t) (given t) read-values.Post Inv-loop μ-loop
+read-items-requires t c κs =
     let h = held t (c .before) in
-    omega arith
-
-read-values-requires : (t : ℕ) → lts.Need-read-values-requires (calls t) (given t) read-values.Post Inv-loop μ-loop
-read-values-requires t c κs =
-    let h = held t (c .before) in
-    (omega arith, h .fits)
+    (omega arith, (h .fits, h .deep))
 
 enum-known-next-2 : (t : ℕ) → lts.Need-enum-known-next-2 (calls t) (given t) read-values.Post Inv-loop μ-loop
 enum-known-next-2 t c = search needs
@@ -135,7 +152,7 @@ loop-again-3 t c =
     let l = c .before .before .before .before .before .before .before .before .before .before .loop in
     let a = c .before .before .before .before .before .before .before .before .before .before .before .before .args in (
       more t (c .before .before .before .before .before .before .before .before .before)
-          ∙ Laws.items-whole (value (l .depth)) (a .s .now) (l .end) (l .left - 1) (c .before .next2 .given .0 .0) (sym (c .before .next2 .given .1) ∙ c .before .before .before .read-values .ensures ∙ sym (held t (c .before .before .before .before .before) .same)),
+          ∙ Laws.items-whole (value (l .depth)) (a .s .now) (l .end) (l .left - 1) (c .before .next2 .given .0 .0) (sym (c .before .next2 .given .1) ∙ c .before .before .before .read-items .ensures ∙ sym (held t (c .before .before .before .before .before) .same)),
       (omega arith, omega arith),
     )
 
@@ -146,7 +163,7 @@ returns-2 : (t : ℕ) → lts.Need-returns-2 (calls t) (given t) read-values.Pos
 returns-2 t c =
     let l = c .before .before .before .before .before .before .before .before .before .before .loop in
     let a = c .before .before .before .before .before .before .before .before .before .before .before .before .args in
-    Laws.items-broken (value (l .depth)) (a .s .now) (l .end) (l .left - 1) (c .before .place2 .given .0 .0) (sym (c .before .place2 .given .1) ∙ c .before .before .before .read-values .ensures ∙ sym (held t (c .before .before .before .before .before) .same))
+    Laws.items-broken (value (l .depth)) (a .s .now) (l .end) (l .left - 1) (c .before .place2 .given .0 .0) (sym (c .before .place2 .given .1) ∙ c .before .before .before .read-items .ensures ∙ sym (held t (c .before .before .before .before .before) .same))
     ∙ sym (more t (c .before .before .before .before .before .before .before .before .before))
 
 returns-3 : (t : ℕ) → lts.Need-returns-3 (calls t) (given t) read-values.Post Inv-loop μ-loop
@@ -157,9 +174,10 @@ returns-3 t c =
     let i = rw e at (l .inv .0) in
     sym (i ∙ ap Whole (add-zero (l .end)))
 
-pub +read-values-spec : {M : Type 1} → statement M
-+read-values-spec =
-    close μ
+pub +read-items+read-values-spec : {M : Type 1} → statement M
++read-items+read-values-spec =
+    close μ-items μ
+    (λ t. read-items-lts.spec (items-calls t) (given-items t) read-items.Post (sub-read-values t) (read-values-requires t) (items-returns t))
     (λ t. lts.spec (calls t) (given t) read-values.Post Inv-loop μ-loop
     (loop-holds t)
     (opened-requires t)
@@ -173,8 +191,7 @@ pub +read-values-spec : {M : Type 1} → statement M
     (sub-depth t)
     (loop-less-2 t)
     (loop-again-2 t)
-    (sub-read-values t)
-    (read-values-requires t)
+    (read-items-requires t)
     (enum-known-next-2 t)
     (sub-left-2 t)
     (loop-less-3 t)
