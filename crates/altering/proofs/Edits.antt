@@ -1,12 +1,12 @@
 -- What `alter` answers for a field of a tuple, as the step of the tuple. Assumes nothing.
 use mathlib.Core.Path.{_≡_, refl, sym, subst, ap, _∙_}
 use mathlib.Core.Bool.{Bool, true, false, _&&_}
-use mathlib.Core.List.{List, [], _∷_, _++_}
+use mathlib.Core.List.{[], _∷_, _++_}
 use mathlib.Core.Option.{Option, none, some}
 use mathlib.Core.Logic.{inl, inr}
-use Prim.Native.Nat.{ℕ, zero, suc, _+_, _<_, _≤_}
+use Prim.Native.Nat.{ℕ, _+_, _<_, _≤_}
 use native.Mathlib.Omega.{arith}
-use borrow.Author.Tests.{leb-true, leb-false, lt-ltb, le-ltb, lt-leb}
+use borrow.Author.Tests.{leb-true, leb-false, lt-ltb, lt-leb}
 use lib.Dec.{leb}
 use lib.ListN.{length, take, drop, getD, length-append}
 use lib.Seq.{take-at}
@@ -15,9 +15,9 @@ use Rattle.tuples.specs.Limits.{maxFields, maxTuple}
 use Rattle.tuples.specs.Tuple.{Fields, plain}
 use Rattle.tuples.specs.Decoding.{Got, fails, gets, Decoder}
 use Rattle.tuples.specs.Operation.{Action, plus, minus, and, xor, or, assign, insert, remove, splice}
-use Rattle.tuples.specs.Edit.{Edit, refuse, put, add, cut, spliced, became, suited, altered, editAt, Step, stop, next, fits, limited, perform}
+use Rattle.tuples.specs.Edit.{Edit, refuse, put, add, cut, spliced, became, suited, altered, editAt, stop, fits, limited, perform}
 use Rattle.tuples.specs.declared.Refusal.{Refusal}
-use Rattle.tuples.specs.declared.Refusal.the-variants.{NoField, Unsuited, OutOfRange, TooLarge}
+use Rattle.tuples.specs.declared.Refusal.the-variants.{TooLarge}
 use Rattle.tuples.proofs.Legal.{plain-length, field-length}
 use Rattle.computing.specs.Altering.{within, Unless, alteredBy, workBy, Alters}
 use Rattle.computing.specs.declared.Altered.{Altered}

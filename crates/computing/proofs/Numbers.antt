@@ -1,10 +1,10 @@
 -- Computed numbers: written, summed, and bit by bit. Assumes nothing.
-use mathlib.Core.Path.{_≡_, refl, sym, subst, ap, _∙_}
+use mathlib.Core.Path.{_≡_, refl, sym, ap, _∙_}
 use mathlib.Core.Bool.{Bool, true, false}
-use mathlib.Core.List.{[], _∷_, _++_}
+use mathlib.Core.List.{_++_}
 use mathlib.Core.Logic.{⊎-elim}
-use mathlib.Core.Option.{Option, none, some}
-use Prim.Native.Nat.{ℕ, zero, suc, _+_, _^_, _<_, _≤_}
+use mathlib.Core.Option.{some}
+use Prim.Native.Nat.{ℕ, _+_, _^_, _<_, _≤_}
 use native.Mathlib.Nat.{zero-add}
 use native.Mathlib.Omega.{arith}
 use borrow.Author.Tests.{le-leb, lt-leb, lt-ltb, le-ltb}
@@ -19,7 +19,7 @@ use Rattle.writing.proofs.Choice.{either, by-ltb}
 use Rattle.writing.proofs.Lengths.{Long, unsigned-long, negative-long}
 use Rattle.read_back.specs.Claims.{integerForm, InRange}
 use Rattle.tuples.specs.Limits.{maxTuple}
-use Rattle.tuples.specs.Decoding.{Got, fails, gets, anyInteger, atLeast}
+use Rattle.tuples.specs.Decoding.{Got, anyInteger, atLeast}
 use Rattle.tuples.specs.Edit.{Edit, refuse, put, asℤ, ranged, became, suited, altered, editAt}
 use Rattle.tuples.specs.declared.Refusal.the-variants.{Unsuited, TooLarge}
 use Rattle.parts.specs.Part.{signedIn, SignedAt, naturalIn, NaturalAt}
@@ -29,13 +29,11 @@ use Rattle.parts.specs.declared.Natural.{Natural}
 use Rattle.parts.specs.declared.Natural.the-variants.{Is as IsNatural, Bad as NoNatural}
 use Rattle.sums.specs.Range.{inRange}
 use Rattle.sums.specs.declared.Sum.{Sum}
-use Rattle.sums.specs.declared.Sum.the-variants.{Is as IsSum, OutOfRange}
 use Rattle.computing.specs.Altering.{Alters}
 use Rattle.computing.specs.Computing.{formOf, SumInRange, gateOf, bitsEdit, sumEdit}
 use Rattle.computing.specs.declared.Gate.{Gate}
 use Rattle.computing.specs.declared.Gate.the-variants.{And, Xor, Or}
-use Rattle.computing.specs.declared.Altered.{Altered}
-use Rattle.computing.specs.declared.Altered.the-variants.{Is, Refused, Other}
+use Rattle.computing.specs.declared.Altered.the-variants.{Is, Refused}
 
 -- ---- a number at the front of the work array
 

@@ -11,7 +11,7 @@ use Rattle.values.specs.Pieces.{joined}
 use Rattle.tuples.specs.Limits.{maxFields, maxTuple}
 use Rattle.tuples.specs.Tuple.{Fields}
 use Rattle.engine.specs.Held.{sum, cutInto, fieldsIn, endOf, lengthsOf, over, Fit}
-use Rattle.engine.proofs.Cut.{sum-next, sum-more, sum-append, length-cut, drop-cut, joined-cut}
+use Rattle.engine.proofs.Cut.{sum-next, sum-more, length-cut, drop-cut, joined-cut}
 use Rattle.engine.proofs.Ends.{Holds, end-here, holds-fewer}
 use Rattle.engine.proofs.Edits.{Held}
 

@@ -20,12 +20,10 @@ use Rattle.scalars.specs.Start.{scalarOf}
 use Rattle.scalars.specs.Integer.{dueIn, due, unsignedBy, unsigned, shiftNatural}
 use Rattle.scalars.specs.declared.Start.{Start}
 use Rattle.scalars.specs.declared.Start.the-variants.{Here, Elsewhere}
-use Rattle.scalars.specs.declared.Due.{Due}
 use Rattle.scalars.specs.declared.Due.the-variants.{More, Cut as CutDue}
 use Rattle.scalars.specs.declared.Natural.{Natural}
 use Rattle.scalars.specs.declared.Natural.the-variants.{Is, Cut, Other}
 use Rattle.frames.specs.declared.FrameAnswer.{FrameAnswer}
-use Rattle.frames.specs.declared.Size.{Size}
 use Rattle.frames.specs.declared.Size.the-variants.{Promises, Refused}
 use Rattle.frames.specs.Limits.{maxSize, maxDepth, heldDepth}
 use Rattle.frames.specs.Maps.{entriesAt}

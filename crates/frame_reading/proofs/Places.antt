@@ -16,7 +16,7 @@ use Rattle.frames.specs.Held.{all}
 use Rattle.frames.specs.Keys.{optional, codeIn, frameAt, headerKeys, bodyKeys}
 use Rattle.frames.specs.Codes.{required}
 use Rattle.frames.specs.Limits.{heldDepth}
-use Rattle.frames.specs.Maps.{Entry, entriesAt, keys, distinct, find}
+use Rattle.frames.specs.Maps.{Entry, entriesAt, keys, distinct}
 use Rattle.frames.specs.Cascade.{check, given}
 use Rattle.frames.specs.Reading.{refuse, accept, suited, byPlaces, byEntries}
 use Rattle.frame_tables.specs.Tables.{Table, table, emptyTable, laidAll, tabledOn, tabled, placeIn}

@@ -1,32 +1,24 @@
 -- A map that was written of pairs is one value, and is read as entries that hold the same bytes, at any depth. Assumes nothing.
-use Prim.Native.Nat.{ℕ, zero, suc, _+_, _-_, _*_, _^_, _≤_, _<_}
-use mathlib.Core.Path.{_≡_, refl, sym, ap, ap₂, _∙_, subst}
+use Prim.Native.Nat.{ℕ, suc, _+_, _-_, _*_, _^_, _≤_, _<_}
+use mathlib.Core.Path.{_≡_, refl, sym, ap, _∙_}
 use mathlib.Core.Bool.{Bool, true, false}
 use mathlib.Core.List.{List, [], _∷_, _++_, append-assoc}
 use mathlib.Core.Option.{Option, none, some}
 use native.Mathlib.Omega.{arith}
-use native.Mathlib.Numerals.{add-one}
 use borrow.Author.Tests.{le-leb}
-use lib.Dec.{leb, eqb}
-use lib.ListN.{length, take, drop, length-append, length-drop}
+use lib.Dec.{eqb}
+use lib.ListN.{length, drop, length-append, length-drop}
 use lib.Seq.{take-length, take-append-seam, drop-append-seam, drop-drop}
 use Rattle.first_bytes.specs.Bytes.{Bytes, pick}
 use Rattle.values.specs.Value.{value}
 use Rattle.values.specs.Pieces.{joined, Each}
-use Rattle.values.specs.declared.Read.{Read}
 use Rattle.values.specs.declared.Read.the-variants.{Whole}
 use Rattle.values.proofs.Local.{value-local, value-pos}
-use Rattle.scalars.specs.Integer.{unsigned}
-use Rattle.scalars.specs.Header.{header}
-use Rattle.scalars.specs.Start.{mapBy}
-use Rattle.scalars.specs.declared.Natural.the-variants.{Is}
-use Rattle.scalars.specs.declared.Header.the-variants.{Is as Opens}
 use Rattle.writing.specs.Forms.{mapHeader}
 use Rattle.read_back.proofs.Back as back
 use Rattle.frames.specs.declared.Place.{Place}
 use Rattle.frames.specs.Limits.{maxKey}
 use Rattle.frames.specs.Held.{view}
-use Rattle.frames.specs.Keys.{nowhere}
 use Rattle.frames.specs.Maps.{Entry, entry, keyed, entryAt, entries, entriesBy, entriesAt, placed, find}
 use Rattle.frames.specs.Cascade.{check, given, whole}
 use Rattle.frames.specs.Writing.{Pair, flat, mapForm}

@@ -1,15 +1,14 @@
 -- Keys, numbers and sizes that were written are read back. Assumes nothing.
 use Prim.Native.Nat.{ℕ, _+_, _^_, _≤_, _<_}
-use mathlib.Core.Path.{_≡_, refl, sym, ap, _∙_}
+use mathlib.Core.Path.{_≡_}
 use mathlib.Core.List.{[], _∷_, _++_, append-nil}
-use mathlib.Core.Option.{Option, none, some}
+use mathlib.Core.Option.{some}
 use native.Mathlib.Omega.{arith}
 use borrow.Author.Tests.{lt-ltb, le-leb}
-use lib.ListN.{length, take, drop, length-append}
+use lib.ListN.{length, length-append}
 use lib.Seq.{take-at}
 use Rattle.first_bytes.specs.Bytes.{Bytes}
 use Rattle.first_bytes.specs.FirstByte.{formOf, sameKind}
-use Rattle.values.specs.Number.{number}
 use Rattle.values.specs.Value.{value}
 use Rattle.values.specs.declared.Read.the-variants.{Whole}
 use Rattle.scalars.specs.Integer.{dueIn, due, naturalOf, unsignedBy, unsigned}

@@ -1,19 +1,18 @@
 -- The round trip: from what the writer accepts to bytes, to maps, to the record, and back. Assumes nothing.
-use Prim.Native.Nat.{ℕ, zero, suc, _+_, _-_, _*_, _^_, _≤_, _<_}
+use Prim.Native.Nat.{ℕ, suc, _+_, _-_, _^_, _≤_, _<_}
 use mathlib.Core.Path.{_≡_, refl, sym, ap, ap₂, fun-ext, _∙_, subst}
-use mathlib.Core.Bool.{Bool, true, false, not, _&&_, _||_}
+use mathlib.Core.Bool.{Bool, true, false, _&&_}
 use mathlib.Core.List.{List, [], _∷_, _++_, append-assoc, append-nil}
 use mathlib.Core.Option.{Option, none, some}
 use native.Mathlib.Omega.{arith}
 use borrow.Author.Tests.{ltb-true, leb-true, le-leb, eq-eqb}
-use lib.Dec.{leb, ltb, eqb}
+use lib.Dec.{leb, ltb}
 use lib.ListN.{length, take, drop, length-append}
-use lib.Seq.{take-at, drop-at, take-all, take-append-seam, drop-append-seam, drop-drop}
-use Rattle.first_bytes.specs.Bytes.{Bytes, pick}
+use lib.Seq.{take-at, drop-at, take-append-seam, drop-append-seam, drop-drop}
+use Rattle.first_bytes.specs.Bytes.{Bytes}
 use Rattle.values.specs.Value.{value}
 use Rattle.values.specs.Pieces.{joined}
-use Rattle.values.specs.declared.Read.{Read}
-use Rattle.values.specs.declared.Read.the-variants.{Whole, Broken}
+use Rattle.values.specs.declared.Read.the-variants.{Whole}
 use Rattle.values.proofs.Local.{value-pos}
 use Rattle.scalars.specs.Integer.{unsigned}
 use Rattle.scalars.specs.declared.Natural.the-variants.{Is}
@@ -23,20 +22,19 @@ use Rattle.frames.specs.declared.Place.{Place}
 use Rattle.frames.specs.declared.Frame.{Frame}
 use Rattle.frames.specs.declared.FrameAnswer.{FrameAnswer}
 use Rattle.frames.specs.declared.Size.the-variants.{Promises}
-use Rattle.frames.specs.declared.Rule.the-variants.{AtMost}
 use Rattle.frames.specs.Limits.{maxSize, maxDepth, heldDepth, max64}
-use Rattle.frames.specs.Held.{all, Held, number, numberIn, suits, numberHeld, encoded, present, Item, locate}
-use Rattle.frames.specs.Keys.{headerItems, bodyItems, optional, codeIn, frameAt, emptyFrame, headerKeys, bodyKeys}
+use Rattle.frames.specs.Held.{all, number, suits, numberHeld, encoded, present, Item, locate}
+use Rattle.frames.specs.Keys.{headerItems, bodyItems, optional, codeIn, frameAt, headerKeys, bodyKeys}
 use Rattle.frames.specs.Codes.{required}
-use Rattle.frames.specs.Maps.{Entry, entriesAt, has, keys, distinct, find}
+use Rattle.frames.specs.Maps.{entriesAt, has, keys, distinct, find}
 use Rattle.frames.specs.Cascade.{check, given, whole}
 use Rattle.frames.specs.Reading.{accept, suited, byPlaces, byEntries, bodyValue, bodyEntries, inFrame, sizeBy, sizeOf, bySize, frameRead}
-use Rattle.frames.specs.Writing.{Pair, flat, pairs, mapForm, contents, frameForm, sound, each, Outcome, refused, written, writeItems, frameWrite, Call, seen, frameWriteCall}
+use Rattle.frames.specs.Writing.{flat, pairs, mapForm, contents, frameForm, sound, each, Outcome, refused, written, writeItems, frameWrite, seen, frameWriteCall}
 use Rattle.frame_round_trip.specs.RoundTrip.{RoundTrip, RoundTrips}
 use Rattle.frame_round_trip.proofs.Numbers.{size-read}
 use Rattle.frame_round_trip.proofs.Maps.{All, Fine, located, behind, Stands, seek, map-whole, map-entries, found}
 use Rattle.frames.proofs.Pairs.{pairs-few}
-use Rattle.frame_round_trip.proofs.Items.{never, both, itemKeys, narrow, Ready, ready, tabled, pairs-fine, distinct-located, seek-pairs, again, Back, Backs, number-back, backs, reread, reread-back, suited-back, present-stands}
+use Rattle.frame_round_trip.proofs.Items.{never, both, itemKeys, narrow, Ready, ready, tabled, pairs-fine, distinct-located, seek-pairs, again, Backs, number-back, backs, reread, reread-back, suited-back, present-stands}
 
 -- ---- from bytes to maps
 

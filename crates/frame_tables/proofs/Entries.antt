@@ -1,5 +1,5 @@
 -- One entry of a map, one law for each way that the code takes; what holds of every entry. Assumes nothing.
-use mathlib.Core.Path.{_≡_, refl, sym, subst, ap, _∙_}
+use mathlib.Core.Path.{_≡_, refl, subst, ap}
 use mathlib.Core.List.{List, [], _∷_}
 use mathlib.Core.Bool.{Bool, true, false}
 use mathlib.Core.Option.{Option, none, some}
@@ -15,7 +15,7 @@ use Rattle.first_bytes.specs.Bytes.{Bytes}
 use Rattle.values.specs.Value.{shift, value}
 use Rattle.values.specs.declared.Read.{Read}
 use Rattle.values.specs.declared.Read.the-variants.{Whole, Broken}
-use Rattle.values.proofs.Local.{never, value-good, value-pos}
+use Rattle.values.proofs.Local.{value-good, value-pos}
 use Rattle.scalars.specs.Integer.{unsigned, shiftNatural}
 use Rattle.scalars.specs.Start.{mapBy}
 use Rattle.scalars.specs.Header.{header, shiftHeader}
@@ -28,7 +28,6 @@ use Rattle.frames.specs.Limits.{heldDepth, maxKey}
 use Rattle.frames.specs.Maps.{Entry, entry, keyed, entryAt, entries, entriesBy, entriesAt}
 use Rattle.frames.specs.Cascade.{check, given, whole}
 use Rattle.frame_tables.specs.Tables.{stepOf}
-use Rattle.frame_tables.specs.declared.Step.{Step}
 use Rattle.frame_tables.specs.declared.Step.the-variants.{Entry as StepEntry, NoKey}
 
 impossible : {A : Type 0} → _≡_ {A = ℕ} 0 1 → A

@@ -1,6 +1,6 @@
 -- A pattern is a NaN's exactly where its low bits are above the infinity's: one law for both formats. Assumes nothing.
 use mathlib.Core.Path.{_≡_, refl, sym, _∙_, subst}
-use mathlib.Core.Bool.{Bool, true, false, not}
+use mathlib.Core.Bool.{Bool, true, not}
 use Prim.Native.Nat.{ℕ, _%_, _*_, _≤_, _<_}
 use lib.Dec.{T}
 use lib.Ieee.{Float, nan, inf, fin, Format, ones, hid, top, nanBits, ofBits, isNan}

@@ -1,13 +1,12 @@
 -- What a whole value tells of its bytes. Assumes nothing.
-use mathlib.Core.Path.{_≡_, refl, sym, subst, ap, _∙_}
-use mathlib.Core.List.{List, [], _∷_}
-use mathlib.Core.Bool.{Bool, true, false}
-use Prim.Native.Nat.{ℕ, zero, suc, _+_, _-_, _<_, _≤_}
+use mathlib.Core.Path.{_≡_, sym, subst, ap, _∙_}
+use mathlib.Core.Bool.{Bool, true}
+use Prim.Native.Nat.{ℕ, _+_, _-_, _<_, _≤_}
 use native.Mathlib.Nat.{zero-add}
 use native.Mathlib.Omega.{arith}
 use lib.Dec.{T, leb, leb→le}
-use lib.ListN.{length, take, drop, getD, length-drop}
-use Rattle.first_bytes.specs.Bytes.{Bytes, pick}
+use lib.ListN.{length, take, drop, getD}
+use Rattle.first_bytes.specs.Bytes.{Bytes}
 use Rattle.first_bytes.specs.FirstByte.{formOf, sameKind}
 use Rattle.first_bytes.specs.declared.Kind.{Kind}
 use Rattle.first_bytes.specs.declared.Form.{Form}

@@ -1,11 +1,11 @@
 -- What an action's argument makes of it, one law for each kind of argument. Assumes nothing.
-use mathlib.Core.Path.{_≡_, refl, sym, subst, ap, _∙_}
+use mathlib.Core.Path.{_≡_, refl, subst, _∙_}
 use Prim.Native.Nat.{ℕ, _≤_}
 use borrow.Author.Tests.{ne-eqb}
 use lib.ListN.{length, drop}
 use Rattle.first_bytes.specs.Bytes.{Bytes}
 use Rattle.scalars.specs.declared.Int.{Int}
-use Rattle.tuples.specs.Decoding.{Got, fails, gets, Decoder, onGot, then, made, nothing, atLeast, position, string}
+use Rattle.tuples.specs.Decoding.{fails, gets, Decoder, onGot, then, made, nothing, atLeast, position, string}
 use Rattle.tuples.specs.Operation.{splice, three, five, actionOf}
 use Rattle.tuples.specs.Operation as Law
 use Rattle.parts.specs.Part.{part, SignedAt, NaturalAt, SpanAt}

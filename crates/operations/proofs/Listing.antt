@@ -1,10 +1,10 @@
 -- A list as a whole. Assumes nothing.
 use mathlib.Core.Path.{_≡_, refl, sym, subst, ap, _∙_}
 use mathlib.Core.Bool.{Bool, true, false, _&&_}
-use mathlib.Core.List.{List, [], _∷_}
+use mathlib.Core.List.{List}
 use mathlib.Core.Option.{Option, none, some}
 use mathlib.Core.Logic.{⊎-elim}
-use Prim.Native.Nat.{ℕ, zero, suc, _-_, _<_, _≤_}
+use Prim.Native.Nat.{ℕ, suc, _-_, _<_, _≤_}
 use native.Mathlib.Omega.{arith}
 use borrow.Author.Tests.{leb-true, le-leb, lt-leb}
 use lib.Dec.{leb}
@@ -18,7 +18,6 @@ use Rattle.scalars.specs.declared.Int.{Int}
 use Rattle.tuples.specs.Limits.{maxOperations, maxList}
 use Rattle.tuples.specs.Decoding.{Got, fails, gets, count}
 use Rattle.tuples.specs.Operation.{Operation, operation, before, andMore, operations, listBy, operationsOf}
-use Rattle.tuples.specs.Operation as Law
 use Rattle.parts.specs.Part.{naturalIn, naturalEnd, NaturalAt}
 use Rattle.operations.specs.Found.{actionIn, endOf}
 use Rattle.operations.specs.Listing.{restOf, restIn, present, frontBy, front}

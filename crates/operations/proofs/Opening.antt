@@ -1,14 +1,14 @@
 -- How an operation begins, and what follows. Assumes nothing.
 use mathlib.Core.Path.{_≡_, refl, sym, subst, ap, _∙_}
-use Prim.Native.Nat.{ℕ, _≤_}
+use Prim.Native.Nat.{ℕ}
 use native.Mathlib.Omega.{arith}
-use lib.ListN.{length, drop}
+use lib.ListN.{drop}
 use Rattle.first_bytes.specs.Bytes.{Bytes}
 use Rattle.scalars.specs.declared.Int.{Int}
 use Rattle.tuples.specs.Decoding.{Got, fails, gets, Decoder, onGot, then, made, anyInteger, count, mark, less}
 use Rattle.tuples.specs.Operation.{Operation, actionOf, operation}
 use Rattle.tuples.specs.Operation as Law
-use Rattle.parts.specs.Part.{signedIn, SignedAt, NaturalAt}
+use Rattle.parts.specs.Part.{SignedAt, NaturalAt}
 use Rattle.operations.specs.Found.{actionIn, ActionAt, Opening, opening, openedIn, OpenedAt}
 use Rattle.parts.specs.declared.Signed.{Signed}
 use Rattle.parts.specs.declared.Signed.the-variants.{Is as IsSigned, Bad as NoSigned}

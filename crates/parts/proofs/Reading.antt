@@ -1,10 +1,10 @@
 -- What an operation is read from: each answer of the code is what the definition gets, and ends within the bytes. Assumes nothing.
-use mathlib.Core.Path.{_≡_, refl, sym, ap, _∙_}
-use mathlib.Core.List.{List, [], _∷_}
-use Prim.Native.Nat.{ℕ, zero, suc, _+_, _-_, _<_, _≤_}
+use mathlib.Core.Path.{_≡_, refl}
+use mathlib.Core.List.{[], _∷_}
+use Prim.Native.Nat.{ℕ, suc, _+_, _-_, _<_, _≤_}
 use native.Mathlib.Omega.{arith}
 use borrow.Author.Tests.{le-leb, lt-leb, eq-eqb, ne-eqb}
-use lib.ListN.{length, take, drop, getD, length-drop, drop-of-length-le}
+use lib.ListN.{length, drop, getD, length-drop}
 use lib.Seq.{drop-drop, drop-cons}
 use Rattle.first_bytes.specs.Bytes.{Bytes}
 use Rattle.first_bytes.specs.FirstByte.{formOf}
@@ -22,15 +22,13 @@ use Rattle.scalars.specs.declared.Start.{Start}
 use Rattle.scalars.specs.declared.Start.the-variants.{Here, Elsewhere}
 use Rattle.scalars.specs.declared.Due.{Due}
 use Rattle.scalars.specs.declared.Due.the-variants.{More, Cut as CutDue, Other as OtherDue}
-use Rattle.scalars.specs.declared.Int.{Int}
-use Rattle.scalars.specs.declared.Int.the-variants.{FromZero, BelowZero}
 use Rattle.scalars.specs.declared.Integer.{Integer}
 use Rattle.scalars.specs.declared.Integer.the-variants.{Is as IsInt, Cut as CutInt, Other as OtherInt}
 use Rattle.scalars.specs.declared.Header.{Header}
 use Rattle.scalars.specs.declared.Header.the-variants.{Is as IsHeader, Other as OtherHeader}
 use Rattle.writing.proofs.Choice.{by-leb}
-use Rattle.tuples.specs.Decoding.{Got, fails, gets, valueFrom, anyValue, integerFrom, anyInteger, stringFrom, string, countFrom, count, mark}
-use Rattle.parts.specs.Part.{signedIn, SignedAt, naturalIn, NaturalAt, spanIn, SpanAt}
+use Rattle.tuples.specs.Decoding.{fails, gets, valueFrom, anyValue, integerFrom, anyInteger, stringFrom, string, countFrom, count, mark}
+use Rattle.parts.specs.Part.{SignedAt, NaturalAt, SpanAt}
 use Rattle.parts.specs.declared.Signed.{Signed as SignedPart}
 use Rattle.parts.specs.declared.Signed.the-variants.{Is as IsSigned, Bad as NoSigned}
 use Rattle.parts.specs.declared.Natural.{Natural}

@@ -1,15 +1,14 @@
 -- One part after the other: what the definition says after the parts that were read. Assumes nothing.
 use mathlib.Core.Path.{_≡_, refl, sym, subst, ap, _∙_}
-use mathlib.Core.List.{List, [], _∷_}
-use Prim.Native.Nat.{ℕ, zero, suc, _+_, _-_, _<_, _≤_}
+use Prim.Native.Nat.{ℕ, _-_, _<_, _≤_}
 use native.Mathlib.Omega.{arith}
-use borrow.Author.Tests.{le-leb, lt-leb, eq-eqb, ne-eqb}
-use lib.ListN.{length, drop}
+use borrow.Author.Tests.{le-leb, lt-leb}
+use lib.ListN.{drop}
 use Rattle.first_bytes.specs.Bytes.{Bytes}
 use Rattle.scalars.specs.declared.Int.{Int}
 use Rattle.scalars.specs.declared.Int.the-variants.{FromZero, BelowZero}
-use Rattle.tuples.specs.Decoding.{Got, fails, gets, Decoder, onGot, then, made, anyInteger, less, floor, atLeast, position}
-use Rattle.parts.specs.Part.{fieldBy, signedIn, SignedAt, naturalIn, NaturalAt, spanIn, SpanAt}
+use Rattle.tuples.specs.Decoding.{fails, gets, Decoder, onGot, then, anyInteger, less, floor, atLeast, position}
+use Rattle.parts.specs.Part.{fieldBy, SignedAt, naturalIn, NaturalAt}
 use Rattle.parts.specs.declared.Field.{Field}
 use Rattle.parts.specs.declared.Field.the-variants.{At, Below}
 use Rattle.parts.specs.declared.Signed.{Signed}

@@ -20,7 +20,7 @@ use Rattle.tuples.specs.Tuple.{Fields}
 use Rattle.tuples.specs.Decoding.{Got, fails, gets, Decoder, less}
 use Rattle.tuples.specs.Operation.{plus, minus, and, xor, or, assign, insert, remove, splice}
 use Rattle.tuples.specs.Operation as Law
-use Rattle.tuples.specs.Edit.{Edit, refuse, put, add, cut, became, suited, altered, editAt, fieldAt, planOf, Step, stop, next, spliced, fits, limited, perform}
+use Rattle.tuples.specs.Edit.{Edit, refuse, put, add, became, suited, altered, editAt, fieldAt, planOf, Step, stop, next, spliced, fits, limited, perform}
 use Rattle.tuples.specs.declared.Refusal.{Refusal}
 use Rattle.tuples.specs.declared.Refusal.the-variants.{NoField, TooLarge}
 use Rattle.tuples.proofs.Cases.{both-hold}
@@ -39,7 +39,7 @@ use Rattle.computing.specs.declared.Altered.{Altered}
 use Rattle.computing.specs.declared.Altered.the-variants.{Is, Refused, Other}
 use Rattle.altering.specs.Edits.{editOf}
 use Rattle.altering.proofs.Edits.{altered-is, altered-refused}
-use Rattle.planning.specs.Plan.{wholly, fieldBytes, alone, orElse, plannedAt, workAt, planned, workAfter, performed, editIn, Among, Means}
+use Rattle.planning.specs.Plan.{wholly, fieldBytes, alone, orElse, plannedAt, workAt, planned, workAfter, performed, Means}
 use Rattle.planning.specs.declared.Planned.{Planned}
 use Rattle.planning.specs.declared.Planned.the-variants.{Refuse, Alter, Bring, Cut}
 

@@ -1,9 +1,9 @@
 -- What each step of reading a number or a header says of the definition. Assumes nothing.
 use mathlib.Core.Path.{_≡_, refl, sym, subst, ap, _∙_}
-use mathlib.Core.List.{List, [], _∷_}
+use mathlib.Core.List.{[], _∷_}
 use mathlib.Core.Bool.{Bool, true, false}
 use Prim.Native.Nat.{ℕ, zero, suc, _+_, _-_, _*_, _^_, _<_, _≤_}
-use native.Mathlib.Nat.{add-assoc, add-zero}
+use native.Mathlib.Nat.{add-zero}
 use native.Mathlib.Numerals.{add-one}
 use native.Mathlib.Omega.{arith}
 use borrow.Author.Tests.{leb-true, le-leb, lt-leb, lt-ltb, le-ltb}
@@ -31,9 +31,8 @@ use Rattle.scalars.specs.declared.Int.the-variants.{FromZero, BelowZero}
 use Rattle.scalars.specs.declared.Natural.{Natural}
 use Rattle.scalars.specs.declared.Natural.the-variants.{Is as IsNat, Cut as CutNat, Other as OtherNat}
 use Rattle.scalars.specs.declared.Integer.{Integer}
-use Rattle.scalars.specs.declared.Integer.the-variants.{Is as IsInt, Cut as CutInt, Other as OtherInt}
-use Rattle.scalars.specs.declared.Due.{Due}
-use Rattle.scalars.specs.declared.Due.the-variants.{More, Cut, Other}
+use Rattle.scalars.specs.declared.Integer.the-variants.{Is as IsInt, Cut as CutInt}
+use Rattle.scalars.specs.declared.Due.the-variants.{More, Cut}
 use Rattle.scalars.specs.declared.Header.the-variants.{Is as IsHeader, Other as OtherHeader}
 
 -- ---- what a first byte asks for is little: one test over all 256 for each kind of start

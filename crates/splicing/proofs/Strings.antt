@@ -1,26 +1,25 @@
 -- Spliced strings. Assumes nothing.
-use mathlib.Core.Path.{_≡_, refl, sym, subst, ap, ap₂, _∙_}
+use mathlib.Core.Path.{_≡_, refl, sym, subst, ap, _∙_}
 use mathlib.Core.Bool.{Bool, true, false, _&&_}
-use mathlib.Core.List.{List, [], _∷_, _++_}
+use mathlib.Core.List.{[], _∷_, _++_}
 use mathlib.Core.Logic.{⊎-elim}
 use mathlib.Core.Option.{some}
-use Prim.Native.Nat.{ℕ, zero, suc, _+_, _-_, _<_, _≤_, min}
+use Prim.Native.Nat.{ℕ, _+_, _-_, _<_, _≤_, min}
 use native.Mathlib.Nat.{zero-add}
 use native.Mathlib.Omega.{arith}
-use borrow.Author.Tests.{leb-true, le-leb, lt-leb}
+use borrow.Author.Tests.{leb-true, lt-leb}
 use lib.Dec.{leb}
-use lib.ListN.{length, take, drop, length-append, length-drop, length-take, drop-of-length-le}
+use lib.ListN.{length, take, drop, length-append, length-drop, drop-of-length-le}
 use lib.Seq.{drop-drop, take-all, take-nil}
-use Rattle.first_bytes.specs.Bytes.{Bytes, pick}
+use Rattle.first_bytes.specs.Bytes.{Bytes}
 use Rattle.writing.specs.Forms.{stringHeader}
 use Rattle.writing.specs.Put.{next}
 use Rattle.writing.specs.Put as Written
 use Rattle.writing.proofs.Choice.{either}
-use Rattle.writing.proofs.Lengths.{string-long}
 use Rattle.writing.proofs.Put.{Wrote, wrote, step}
 use Rattle.read_back.specs.Claims.{stringForm}
 use Rattle.tuples.specs.Limits.{maxTuple}
-use Rattle.tuples.specs.Decoding.{Got, fails, gets, string}
+use Rattle.tuples.specs.Decoding.{Got, string}
 use Rattle.tuples.specs.Operation.{splice}
 use Rattle.tuples.specs.Edit.{Edit, refuse, put, spliced, became, suited, altered, editAt}
 use Rattle.tuples.specs.declared.Refusal.the-variants.{Unsuited, TooLarge}
@@ -28,8 +27,7 @@ use Rattle.parts.specs.Part.{part, spanIn, SpanAt}
 use Rattle.parts.specs.declared.Span.{Span}
 use Rattle.parts.specs.declared.Span.the-variants.{Is as IsSpan, Bad as NoSpan}
 use Rattle.computing.specs.Altering.{within, Alters}
-use Rattle.computing.specs.declared.Altered.{Altered}
-use Rattle.computing.specs.declared.Altered.the-variants.{Is, Refused, Other}
+use Rattle.computing.specs.declared.Altered.the-variants.{Is, Refused}
 
 -- ---- bytes from a place up to another, held to the end
 

@@ -1,18 +1,16 @@
 -- Sums and differences by the signs. Assumes nothing.
 use mathlib.Core.Path.{_≡_, refl, sym, ap, _∙_}
-use mathlib.Core.Bool.{Bool, true, false}
 use mathlib.Core.Logic.{⊎-elim}
 use Prim.Native.Nat.{ℕ, zero, suc, _+_, _-_, _^_, _<_, _≤_}
 use native.Mathlib.Omega.{arith}
 use native.Mathlib.Numerals.{add-one}
 use borrow.Author.Tests.{lt-ltb, le-ltb}
-use lib.IntN.{ℤ, pos, negsuc, subℕ, negℤ, _+ℤ_, _-ℤ_}
+use lib.IntN.{ℤ, pos, negsuc, subℕ, _+ℤ_, _-ℤ_}
 use Rattle.scalars.specs.declared.Int.{Int}
 use Rattle.scalars.specs.declared.Int.the-variants.{FromZero, BelowZero}
 use Rattle.writing.proofs.Choice.{either}
 use Rattle.tuples.specs.Edit.{asℤ}
 use Rattle.sums.specs.Range.{inRange}
-use Rattle.sums.specs.declared.Sum.{Sum}
 use Rattle.sums.specs.declared.Sum.the-variants.{Is, OutOfRange}
 
 pub from-is : (n : ℕ) → n < 2 ^ 64 → Is (FromZero n) ≡ inRange (pos n)

@@ -8,7 +8,7 @@ use lib.ListN.{length, take, drop, length-append, length-drop}
 use lib.Seq.{length-take-le}
 use Rattle.first_bytes.specs.Bytes.{Bytes}
 use Rattle.scalars.specs.declared.Int.{Int}
-use Rattle.tuples.specs.Limits.{maxFields, maxTuple}
+use Rattle.tuples.specs.Limits.{maxFields}
 use Rattle.tuples.specs.Tuple.{Fields}
 use Rattle.tuples.specs.Decoding.{Got, fails, gets, less}
 use Rattle.tuples.specs.Operation.{Operation, operation, actionOf, plus, minus, and, xor, or, assign, insert, remove, splice}

@@ -1,20 +1,18 @@
 -- A whole value is known by its own bytes, whatever follows them. Assumes nothing.
 use mathlib.Core.Path.{_≡_, refl, sym, subst, ap, _∙_}
-use mathlib.Core.List.{List, [], _∷_, _++_}
+use mathlib.Core.List.{[], _∷_, _++_}
 use mathlib.Core.Bool.{Bool, true, false}
-use Prim.Native.Nat.{ℕ, zero, suc, _+_, _-_, _*_, _<_, _≤_}
-use native.Mathlib.Nat.{add-zero, zero-add, suc-add}
-use native.Mathlib.Numerals.{add-one, one-add}
+use Prim.Native.Nat.{ℕ, zero, suc, _+_, _-_, _*_, _≤_}
+use native.Mathlib.Nat.{zero-add, suc-add}
 use native.Mathlib.Omega.{arith}
-use borrow.Author.Tests.{leb-true, leb-false, le-leb, lt-leb}
+use borrow.Author.Tests.{leb-true, le-leb}
 use lib.Dec.{leb}
-use lib.ListN.{length, take, drop, getD, length-drop, length-append}
+use lib.ListN.{length, take, drop, length-drop, length-append}
 use lib.Seq.{take-take, take-at, take-nil, drop-nil, length-take-le}
 use Rattle.first_bytes.specs.Bytes.{Bytes, pick}
 use Rattle.first_bytes.specs.FirstByte.{formOf}
 use Rattle.values.specs.Number.{number}
 use Rattle.values.specs.Value.{shift, payload, sized, andThen, items, byForm, one, tooDeep, container, value}
-use Rattle.first_bytes.specs.declared.Kind.{Kind}
 use Rattle.first_bytes.specs.declared.Form.{Form}
 use Rattle.first_bytes.specs.declared.Form.the-variants.{Unused, Scalar, Array, Map}
 use Rattle.values.specs.declared.Read.{Read}

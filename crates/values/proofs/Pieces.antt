@@ -1,17 +1,16 @@
 -- Taking a container's values apart and putting them together. Assumes nothing.
-use mathlib.Core.Path.{_≡_, refl, sym, subst, ap, ap₂, _∙_}
-use mathlib.Core.List.{List, [], _∷_, _++_, append-assoc}
-use Prim.Native.Nat.{ℕ, zero, suc, _+_, _≤_}
-use native.Mathlib.Nat.{add-zero}
+use mathlib.Core.Path.{_≡_, refl, sym, ap, _∙_}
+use mathlib.Core.List.{List, _++_, append-assoc}
+use Prim.Native.Nat.{ℕ, zero, suc, _+_}
 use native.Mathlib.Omega.{arith}
 use lib.ListN.{length, take, drop, length-append}
 use lib.Seq.{take-add, take-length, take-append-seam, drop-append-seam}
 use Rattle.first_bytes.specs.Bytes.{Bytes}
-use Rattle.values.specs.Value.{shift, andThen, items}
-use Rattle.values.specs.Pieces.{cut, pieces, joined, Single, Each, none, more}
+use Rattle.values.specs.Value.{andThen, items}
+use Rattle.values.specs.Pieces.{pieces, joined, Single, Each, none, more}
 use Rattle.values.specs.declared.Read.{Read}
 use Rattle.values.specs.declared.Read.the-variants.{Whole, Broken}
-use Rattle.values.proofs.Local.{Good, Same, never, shift-whole}
+use Rattle.values.proofs.Local.{Good, never, shift-whole}
 
 -- the pieces of n whole values are n, and are the values' bytes
 pub pieces-joined : (v : Bytes → Read) (n : ℕ) (s : Bytes) (k : ℕ) → items v n s ≡ Whole k

@@ -1,7 +1,6 @@
 -- A number, or out of range. Assumes nothing.
 use mathlib.Core.Path.{refl, subst}
 use Rattle.tuples.specs.Edit.{became}
-use Rattle.computing.specs.Computing.{formOf}
 use Rattle.computing.specs.Computing.{SumInRange}
 use borrow.Author.Needs.{needs}
 use Rattle.computing.proofs.put_sum.Statement.{statement}

@@ -1,8 +1,5 @@
 -- The field and the argument, as integers. Assumes nothing.
-use mathlib.Core.Option.{some}
 use mathlib.Core.Path.{refl, sym, subst}
-use Rattle.tuples.specs.Edit.{Edit}
-use Rattle.computing.specs.Altering.{Alters}
 use Rattle.computing.specs.Computing.{SumInRange}
 use Rattle.computing.proofs.Numbers as Numbers
 use borrow.Author.Needs.{needs}

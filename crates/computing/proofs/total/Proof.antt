@@ -1,5 +1,4 @@
 -- A sum or a difference. Assumes nothing.
-use Rattle.first_bytes.specs.Bytes.{pick}
 use borrow.Author.Needs.{needs}
 use Rattle.computing.proofs.total.Statement.{statement}
 use Rattle.computing.proofs.total.Tie as tie

@@ -1,5 +1,4 @@
 -- By its sign. Assumes nothing.
-use Rattle.read_back.specs.Claims.{integerForm}
 use borrow.Author.Needs.{needs}
 use Rattle.computing.proofs.write_number.Statement.{statement}
 use Rattle.computing.proofs.write_number.Tie as tie

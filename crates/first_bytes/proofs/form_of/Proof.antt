@@ -1,7 +1,7 @@
 -- `form_of` is the definition `formOf`: a single byte by rewriting, a range by one computed test. Assumes nothing.
 use borrow.Author.Needs.{needs}
 use native.Mathlib.Omega.{arith}
-use Prim.Native.Nat.{ℕ, _+_, _-_, _*_, _^_}
+use Prim.Native.Nat.{_+_, _-_, _*_, _^_}
 use Rattle.first_bytes.specs.FirstByte.{formOf}
 use Rattle.first_bytes.specs.declared.Kind.the-variants.{Boolean, Unsigned, Signed, String, Bin, Ext}
 use Rattle.first_bytes.specs.declared.Form.the-variants.{Scalar, Array, Map}

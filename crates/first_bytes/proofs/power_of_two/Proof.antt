@@ -1,6 +1,5 @@
 use native.Mathlib.Omega.{arith}
-use Prim.Native.Nat.{ℕ, _^_}
-use mathlib.Core.Path.{_≡_, sym, ap}
+use mathlib.Core.Path.{_≡_}
 use Rattle.first_bytes.proofs.power_of_two.Statement.{statement}
 use Rattle.first_bytes.proofs.power_of_two.Tie as tie
 

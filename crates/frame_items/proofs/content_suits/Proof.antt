@@ -4,11 +4,6 @@ use Rattle.frame_items.specs.Content.{heldOf}
 use borrow.Author.Needs.{needs}
 use Rattle.frame_items.proofs.content_suits.Statement.{statement}
 use Rattle.frame_items.proofs.content_suits.Tie as tie
-use Rattle.frame_items.proofs.content_suits.Reads as reads
-use Rattle.frame_items.proofs.content_suits.Lts as lts
-use Rattle.frame_fields.proofs.view_of.Reads as view-of-reads
-use Rattle.frame_items.proofs.number_suits.Reads as number-suits-reads
-use Rattle.frame_items.proofs.view_suits.Reads as view-suits-reads
 
 enum-told : tie.Need-enum-told
 enum-told c = search needs

@@ -4,10 +4,6 @@ use Rattle.frame_items.specs.Content.{heldOf}
 use borrow.Author.Needs.{needs}
 use Rattle.frame_items.proofs.is_sound.Statement.{statement}
 use Rattle.frame_items.proofs.is_sound.Tie as tie
-use Rattle.frame_items.proofs.is_sound.Reads as reads
-use Rattle.frame_items.proofs.is_sound.Lts as lts
-use Rattle.frame_fields.proofs.view_of.Reads as view-of-reads
-use Rattle.frame_items.proofs.view_sound.Reads as view-sound-reads
 
 enum-told : tie.Need-enum-told
 enum-told c = search needs

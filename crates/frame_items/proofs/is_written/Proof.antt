@@ -3,8 +3,6 @@ use Rattle.frame_items.specs.Content.{isWritten}
 use borrow.Author.Needs.{needs}
 use Rattle.frame_items.proofs.is_written.Statement.{statement}
 use Rattle.frame_items.proofs.is_written.Tie as tie
-use Rattle.frame_items.proofs.is_written.Reads as reads
-use Rattle.frame_items.proofs.is_written.Lts as lts
 
 enum-told : tie.Need-enum-told
 enum-told c = search needs

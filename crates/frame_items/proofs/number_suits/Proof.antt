@@ -3,8 +3,6 @@ use Rattle.frames.specs.Held.{suits}
 use borrow.Author.Needs.{needs}
 use Rattle.frame_items.proofs.number_suits.Statement.{statement}
 use Rattle.frame_items.proofs.number_suits.Tie as tie
-use Rattle.frame_items.proofs.number_suits.Reads as reads
-use Rattle.frame_items.proofs.number_suits.Lts as lts
 
 enum-known-rule : tie.Need-enum-known-rule
 enum-known-rule c = search needs

@@ -4,11 +4,6 @@ use Rattle.frame_items.specs.Content.{heldOf, pairLength, capped}
 use borrow.Author.Needs.{needs}
 use Rattle.frame_items.proofs.pair_length.Statement.{statement}
 use Rattle.frame_items.proofs.pair_length.Tie as tie
-use Rattle.frame_items.proofs.pair_length.Reads as reads
-use Rattle.frame_items.proofs.pair_length.Lts as lts
-use Rattle.frame_fields.proofs.view_of.Reads as view-of-reads
-use Rattle.frame_items.proofs.with_key.Reads as with-key-reads
-use Rattle.writing.proofs.unsigned_length.Reads as unsigned-length-reads
 
 enum-told : tie.Need-enum-told
 enum-told c = search needs

@@ -5,9 +5,6 @@ use Rattle.frame_items.proofs.Laws.{is-whole, is-broken}
 use borrow.Author.Needs.{needs}
 use Rattle.frame_items.proofs.view_sound.Statement.{statement}
 use Rattle.frame_items.proofs.view_sound.Tie as tie
-use Rattle.frame_items.proofs.view_sound.Reads as reads
-use Rattle.frame_items.proofs.view_sound.Lts as lts
-use Rattle.values.proofs.read_value.Reads as read-value-reads
 
 read-value-requires : tie.Need-read-value-requires
 read-value-requires c κs = search needs

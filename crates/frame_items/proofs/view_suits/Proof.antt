@@ -3,9 +3,6 @@ use Rattle.frames.specs.Held.{suits, heldIn}
 use borrow.Author.Needs.{needs}
 use Rattle.frame_items.proofs.view_suits.Statement.{statement}
 use Rattle.frame_items.proofs.view_suits.Tie as tie
-use Rattle.frame_items.proofs.view_suits.Reads as reads
-use Rattle.frame_items.proofs.view_suits.Lts as lts
-use Rattle.frame_rules.proofs.suits_rule.Reads as suits-rule-reads
 
 enum-told : tie.Need-enum-told
 enum-told c = search needs

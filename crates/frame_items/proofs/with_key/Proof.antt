@@ -5,8 +5,6 @@ use Rattle.frame_items.proofs.Laws.{capped-low, capped-high}
 use borrow.Author.Needs.{needs}
 use Rattle.frame_items.proofs.with_key.Statement.{statement}
 use Rattle.frame_items.proofs.with_key.Tie as tie
-use Rattle.frame_items.proofs.with_key.Reads as reads
-use Rattle.frame_items.proofs.with_key.Lts as lts
 
 add-result : tie.Need-add-result
 add-result c = search needs

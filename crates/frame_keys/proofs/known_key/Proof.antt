@@ -8,10 +8,6 @@ use Rattle.frame_items.proofs.Laws.{number-at, place-at, past-all}
 use borrow.Author.Needs.{needs}
 use Rattle.frame_keys.proofs.known_key.Statement.{statement}
 use Rattle.frame_keys.proofs.known_key.Tie as tie
-use Rattle.frame_keys.proofs.known_key.Reads as reads
-use Rattle.frame_keys.proofs.known_key.Lts as lts
-use Rattle.frame_keys.proofs.number_key.Reads as number-key-reads
-use Rattle.frame_keys.proofs.place_key.Reads as place-key-reads
 
 number-key-requires : tie.Need-number-key-requires
 number-key-requires c κs = search needs

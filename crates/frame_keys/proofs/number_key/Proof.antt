@@ -2,8 +2,6 @@
 
 use Rattle.frame_keys.proofs.number_key.Statement.{statement}
 use Rattle.frame_keys.proofs.number_key.Tie as tie
-use Rattle.frame_keys.proofs.number_key.Reads as reads
-use Rattle.frame_keys.proofs.number_key.Lts as lts
 
 returns : tie.Need-returns
 returns c = rw (c .if1 .taken)

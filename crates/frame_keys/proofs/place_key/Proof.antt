@@ -5,9 +5,6 @@ use Rattle.frame_items.specs.Content.{itemOf}
 use borrow.Author.Needs.{needs}
 use Rattle.frame_keys.proofs.place_key.Statement.{statement}
 use Rattle.frame_keys.proofs.place_key.Tie as tie
-use Rattle.frame_keys.proofs.place_key.Reads as reads
-use Rattle.frame_keys.proofs.place_key.Lts as lts
-use Rattle.frame_keys.proofs.place_content.Reads as place-content-reads
 
 place-content-requires : tie.Need-place-content-requires
 place-content-requires c κs = search needs

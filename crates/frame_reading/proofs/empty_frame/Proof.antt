@@ -1,6 +1,6 @@
 -- All absent. Assumes nothing.
 use mathlib.Core.Path.{refl}
-use Rattle.frames.specs.Held.{view, natural, numberIn}
+use Rattle.frames.specs.Held.{numberIn}
 use Rattle.frames.specs.Keys.{optional, frameAt, emptyFrame}
 use Rattle.frame_reading.proofs.empty_frame.Statement.{statement}
 use Rattle.frame_reading.proofs.empty_frame.Tie as tie

@@ -2,7 +2,6 @@
 use mathlib.Core.Path.{ap}
 use borrow.Author.Needs.{needs}
 use Rattle.frames.specs.declared.Frame.{Frame}
-use Rattle.frames.specs.declared.FrameAnswer.{FrameAnswer}
 use Rattle.frames.specs.Reading.{refuse}
 use Rattle.frame_reading.proofs.refused.Statement.{statement}
 use Rattle.frame_reading.proofs.refused.Tie as tie

@@ -1,6 +1,5 @@
 -- An unsigned number below 128, and then a value. Assumes nothing.
 use mathlib.Core.Path.{sym, _∙_}
-use native.Mathlib.Omega.{arith}
 use borrow.Author.Needs.{needs}
 use Rattle.frame_tables.proofs.Entries.{no-number, large-key, no-value, one-entry, ends-after}
 use Rattle.frame_tables.proofs.entry_at.Statement.{statement}

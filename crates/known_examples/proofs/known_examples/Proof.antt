@@ -11,9 +11,8 @@ use Rattle.tuples.specs.Tuple.{plain, filling, values, fieldsBy, fieldsOf}
 use Rattle.tuples.specs.Decoding.{onGot, then, made, nothing, valueFrom, anyValue, integerFrom, anyInteger, less, floor, atLeast, position, stringFrom, string, countFrom, count, mark}
 use Rattle.tuples.specs.Operation.{three, five, actionOf, operation, before, andMore, operations, listBy, operationsOf}
 use Rattle.tuples.specs.Edit.{asℤ, ranged, spliced, became, suited, altered, editAt, fieldAt, planOf, plans, fits, limited, perform, step, run, operationBytes, restored, inverse, undoOf}
-use Rattle.tuples.specs.Call.{numberOf, judged, onRun, updateOf, limitedList, undoListOf, update, undo, Result, refusing, writing, delivered, updateCall, undoCall}
+use Rattle.tuples.specs.Call.{numberOf, judged, onRun, updateOf, limitedList, undoListOf, update, undo, refusing, writing, delivered, updateCall, undoCall}
 use Rattle.frames.specs.Cascade.{check}
-use Rattle.frames.specs.Keys.{emptyFrame}
 use Rattle.frames.specs.Reading.{refuse, sizeBy, sizeOf, bySize, frameRead}
 use Rattle.known_examples.specs.Table.{answered, expected}
 use Rattle.known_examples.proofs.known_examples.Statement.{statement}

@@ -1,7 +1,6 @@
 -- A frame that was read ends within the input. Assumes nothing.
 use native.Mathlib.Omega.{arith}
-use Prim.Native.Nat.{ℕ, _+_, _≤_}
-use mathlib.Core.Path.{_≡_}
+use Prim.Native.Nat.{_+_, _≤_}
 use lib.ListN.{length, length-take, length-drop}
 use Rattle.listing.proofs.Within.{frame-within}
 use borrow.Author.Needs.{needs}

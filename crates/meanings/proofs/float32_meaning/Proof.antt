@@ -1,6 +1,6 @@
 -- The number of the float's bytes, as its bits. Assumes nothing.
 use native.Mathlib.Omega.{arith}
-use Prim.Native.Nat.{ℕ, _^_, _<_}
+use Prim.Native.Nat.{_^_, _<_}
 use Rattle.meanings.specs.Meaning.{ofFloat32}
 use borrow.Author.Needs.{needs}
 use Rattle.meanings.proofs.float32_meaning.Statement.{statement}

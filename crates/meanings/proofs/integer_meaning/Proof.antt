@@ -1,7 +1,6 @@
 -- The integer at the front. Assumes nothing.
 use native.Mathlib.Nat.{zero-add}
 use mathlib.Core.Path.{_≡_, refl, ap, _∙_}
-use Prim.Native.Nat.{ℕ}
 use Rattle.scalars.specs.Integer.{integer, shiftInteger}
 use Rattle.meanings.specs.Meaning.{ofInteger}
 use Rattle.scalars.specs.declared.Integer.{Integer}

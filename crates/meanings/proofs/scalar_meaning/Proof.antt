@@ -1,6 +1,6 @@
 -- Each kind's meaning. Assumes nothing.
 use native.Mathlib.Omega.{arith}
-use Prim.Native.Nat.{ℕ, _+_, _≤_}
+use Prim.Native.Nat.{_+_, _≤_}
 use mathlib.Core.Path.{_≡_, subst}
 use Rattle.first_bytes.specs.FirstByte.{sameKind}
 use Rattle.first_bytes.specs.declared.Kind.{Kind}

@@ -1,9 +1,8 @@
 -- Cut, of another kind, or due and there, as the first byte says. Assumes nothing.
 use native.Mathlib.Omega.{arith}
-use Prim.Native.Nat.{ℕ, _+_, _<_}
-use mathlib.Core.Path.{_≡_, sym, ap, _∙_}
-use lib.ListN.{getD, length, drop}
-use Rattle.first_bytes.specs.declared.Form.{Form}
+use Prim.Native.Nat.{_+_, _<_}
+use mathlib.Core.Path.{_≡_, ap, _∙_}
+use lib.ListN.{length, drop}
 use Rattle.scalars.specs.Start.{scalarOf}
 use Rattle.scalars.specs.Integer.{dueIn, due}
 use Rattle.scalars.proofs.Laws as Laws

@@ -1,7 +1,6 @@
 -- The header by its first byte. Assumes nothing.
 use native.Mathlib.Omega.{arith}
-use Prim.Native.Nat.{ℕ, _+_}
-use mathlib.Core.Path.{_≡_, sym, ap, subst, _∙_}
+use mathlib.Core.Path.{sym, ap, subst, _∙_}
 use lib.ListN.{getD}
 use Rattle.scalars.specs.Start.{startBy, Few}
 use Rattle.scalars.proofs.Laws as Laws

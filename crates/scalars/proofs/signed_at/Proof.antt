@@ -1,7 +1,7 @@
 -- The number that is due, cut, or of another kind. Assumes nothing.
 use native.Mathlib.Omega.{arith}
-use Prim.Native.Nat.{ℕ, _+_, _≤_}
-use mathlib.Core.Path.{_≡_, sym, _∙_}
+use Prim.Native.Nat.{_+_, _≤_}
+use mathlib.Core.Path.{sym, _∙_}
 use lib.ListN.{length}
 use Rattle.first_bytes.specs.declared.Kind.the-variants.{Signed}
 use Rattle.scalars.specs.Integer.{signed, signedBy}

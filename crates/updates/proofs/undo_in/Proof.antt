@@ -1,5 +1,5 @@
 -- What takes the operations back is delivered, where it has room in the buffer. Assumes nothing.
-use mathlib.Core.Path.{_≡_, refl, sym, _∙_}
+use mathlib.Core.Path.{refl, sym, _∙_}
 use native.Mathlib.Omega.{arith}
 use Rattle.answers.proofs.Written.{seen-refusal}
 use Rattle.updates.specs.Carrying.{Refuses, Carried}

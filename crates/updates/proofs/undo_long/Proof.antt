@@ -1,5 +1,5 @@
 -- The answer; or 17, since every list within the limits has room. Assumes nothing.
-use mathlib.Core.Path.{_≡_, refl, ap, _∙_}
+use mathlib.Core.Path.{refl, ap, _∙_}
 use native.Mathlib.Omega.{arith}
 use Rattle.answers.specs.Seen.{seen}
 use Rattle.tuples.specs.declared.Refusal.the-variants.{LongUndo}

@@ -1,5 +1,5 @@
 -- By short arrays or long ones. Assumes nothing.
-use mathlib.Core.Path.{_≡_, ap, _∙_}
+use mathlib.Core.Path.{ap, _∙_}
 use native.Mathlib.Omega.{arith}
 use Rattle.tuples.specs.Call.{updateCall}
 use borrow.Author.Needs.{needs}

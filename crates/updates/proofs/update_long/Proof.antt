@@ -1,5 +1,4 @@
 -- The answer; no tuple within the limits lacks room. Assumes nothing.
-use mathlib.Core.Path.{_≡_, refl, ap, _∙_}
 use native.Mathlib.Omega.{arith}
 use borrow.Author.Needs.{needs}
 use Rattle.updates.proofs.update_long.Statement.{statement}

@@ -1,13 +1,12 @@
 -- `number_at` is the definition `numberAt`. The loop's invariant: n is the number of the first i bytes. Assumes nothing.
 use native.Mathlib.Omega.{arith}
-use borrow.Author.Needs.{needs}
 use borrow.Author.Tests.{le-leb, lt-leb}
-use Prim.Native.Nat.{ℕ, _+_, _-_, _*_, _^_, _<_, _≤_}
-use mathlib.Core.Path.{_≡_, refl, sym, ap, _∙_}
+use Prim.Native.Nat.{_+_, _-_, _*_, _^_, _<_, _≤_}
+use mathlib.Core.Path.{_≡_, refl, ap}
 use mathlib.Core.Bool.{and-false}
 use lib.ListN.{length, take, drop}
 use Rattle.values.specs.Number.{number}
-use Rattle.values.specs.declared.Number.the-variants.{Is, Missing}
+use Rattle.values.specs.declared.Number.the-variants.{Is}
 use Rattle.values.proofs.Big.{number-next, grow, small}
 use Rattle.values.proofs.number_at.Statement.{statement}
 use Rattle.values.proofs.number_at.Tie as tie
