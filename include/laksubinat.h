@@ -9,7 +9,7 @@
  *     give `operation`, the index from 0 of the operation that was refused.
  *   - Accepted: `length` bytes were written or read. Bytes of `out` past them are unchanged.
  *   - Nothing is kept between calls, no memory is allocated, and no other memory is written; so
- *     any thread may call. Stack, measured: lak_undo 75 KB, lak_update 36 KB, lak_frame_read 9 KB;
+ *     any thread may call. Stack, measured: lak_undo 81 KB, lak_update 42 KB, lak_frame_read 6 KB;
  *     the other two less than 4 KB.
  *
  * What the caller owes, since C cannot ask for it and the proofs assume it:

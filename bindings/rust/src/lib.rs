@@ -3,7 +3,7 @@
 //!
 //! Slices go in; enums, structs and lengths come out. A refusal is an [`Error`] with its number, and leaves every byte
 //! of the lent buffer as it was. After an accepted call, bytes past the written length are unchanged. Nothing is kept
-//! between calls and nothing is allocated, so any thread may call; the deepest call, [`undo`], takes 75 KB of stack.
+//! between calls and nothing is allocated, so any thread may call; the deepest call, [`undo`], takes 81 KB of stack.
 //!
 //! A press arrives: `^` with 1 on field 0. The update writes the new tuple, the undo call writes the list that takes it
 //! back, and an update with that list gives the old bytes again:
