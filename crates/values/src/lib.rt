@@ -219,7 +219,7 @@ fn opened(s: &[u8], at: usize, depth: usize) -> Opening
 }
 
 // The n items from `at` on of a container that may have depth `depth`. If `read_values` called itself,
-// the compiler would hand it the slice through memory.
+// the compiled code would copy the slice's pointer and length at each call.
 fn read_items(s: &[u8], at: usize, n: usize, depth: usize) -> Read
     requires { ⌜ (n < 2 ^ 34) × (0 < depth) ⌝ }
     ensures { λ r. ⌜ r ≡ shift at (items (value (depth - 1)) n (drop at (now (s .entry)))) ⌝ }
