@@ -50,13 +50,15 @@ pub fn holds_all(frame: Frame, bytes: &[u8], keys: &[usize]) -> bool
 }
 
 fn capped_sum(a: usize, b: usize) -> usize
-    requires { ⌜ (a ≤ 60001) × (b ≤ 60001) ⌝ }
     ensures { λ r. ⌜ r ≡ capped (a + b) ⌝ }
 {
-    if a + b <= 60_000 {
-        return a + b;
+    if 60_000 < a {
+        return 60_001;
     }
-    60_001
+    if 60_000 - a < b {
+        return 60_001;
+    }
+    a + b
 }
 
 fn pairs_of(content: Content) -> u32
@@ -70,7 +72,7 @@ fn pairs_of(content: Content) -> u32
 }
 
 // The keys from one on and up to another. One pass, since looking a key up takes longest.
-pub fn judged(frame: Frame, bytes: &[u8], from: usize, to: usize) -> Judgement
+fn judged(frame: Frame, bytes: &[u8], from: usize, to: usize) -> Judgement
     requires { ⌜ (from ≤ to) × (to ≤ 17) ⌝ }
     ensures { λ r. ⌜ Judged (itemsBetween from to frame (now (bytes .entry))) r ⌝ }
 {
@@ -97,9 +99,20 @@ pub fn judged(frame: Frame, bytes: &[u8], from: usize, to: usize) -> Judgement
     }
 }
 
+pub fn header_judged(frame: Frame, bytes: &[u8]) -> Judgement
+    ensures { λ r. ⌜ Judged (itemsBetween 0 3 frame (now (bytes .entry))) r ⌝ }
+{
+    judged(frame, bytes, 0, 3)
+}
+
+pub fn body_judged(frame: Frame, bytes: &[u8]) -> Judgement
+    ensures { λ r. ⌜ Judged (itemsBetween 3 17 frame (now (bytes .entry))) r ⌝ }
+{
+    judged(frame, bytes, 3, 17)
+}
+
 // How long header and body are, each with a header of one byte.
 pub fn contents_length(header: usize, body: usize) -> usize
-    requires { ⌜ (header ≤ 60001) × (body ≤ 60001) ⌝ }
     ensures { λ r. ⌜ r ≡ capped (capped (header + body) + 2) ⌝ }
 {
     capped_sum(capped_sum(header, body), 2)

@@ -119,8 +119,8 @@ pub fn write_frame(frame: Frame, bytes: &[u8], out: &mut [u8]) -> Written
     if !needs.known {
         return refused(8);
     }
-    let header = frame_judging::judged(frame, bytes, 0, 3);
-    let body = frame_judging::judged(frame, bytes, 3, 17);
+    let header = frame_judging::header_judged(frame, bytes);
+    let body = frame_judging::body_judged(frame, bytes);
     let sound = header.sound & body.sound;
     let suited = header.suited & body.suited;
     if !sound {

@@ -6,17 +6,17 @@ use borrow.Author.Needs.{needs}
 use Rattle.frame_judging.proofs.capped_sum.Statement.{statement}
 use Rattle.frame_judging.proofs.capped_sum.Tie as tie
 
-add-if1 : tie.Need-add-if1
-add-if1 c = search needs
+returns : tie.Need-returns
+returns c = let a = c .before .args in capped-high (a .a + a .b) (omega arith)
+
+returns-2 : tie.Need-returns-2
+returns-2 c = let a = c .before .before .args in capped-high (a .a + a .b) (omega arith)
 
 add-result : tie.Need-add-result
 add-result c = search needs
 
-returns : tie.Need-returns
-returns c = let a = c .before .args in capped-low (a .a + a .b) (omega arith)
-
-returns-2 : tie.Need-returns-2
-returns-2 c = let a = c .before .args in capped-high (a .a + a .b) (omega arith)
+returns-3 : tie.Need-returns-3
+returns-3 c = let a = c .before .before .args in capped-low (a .a + a .b) (omega arith)
 
 pub capped-sum-spec : {M : Type 1} → statement M
-capped-sum-spec = tie.close (tie.spec add-if1 add-result returns returns-2)
+capped-sum-spec = tie.close (tie.spec returns returns-2 add-result returns-3)

@@ -1,7 +1,5 @@
 -- Two sums. Assumes nothing.
 use borrow.Author.Needs.{needs}
-use native.Mathlib.Omega.{arith}
-use Rattle.frame_judging.proofs.Lengths.{capped-few}
 use Rattle.frame_judging.proofs.contents_length.Statement.{statement}
 use Rattle.frame_judging.proofs.contents_length.Tie as tie
 
@@ -9,7 +7,7 @@ capped-sum-requires : tie.Need-capped-sum-requires
 capped-sum-requires c κs = search needs
 
 capped-sum-requires-2 : tie.Need-capped-sum-requires-2
-capped-sum-requires-2 c κs = (rw (c .capped-sum .ensures) (capped-few _), omega arith)
+capped-sum-requires-2 c κs = search needs
 
 returns : tie.Need-returns
 returns c = cc

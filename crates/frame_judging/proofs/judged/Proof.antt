@@ -2,7 +2,6 @@
 use Prim.Native.Nat.{_-_, _≤_}
 use Rattle.frame_judging.specs.Parts.{itemsBetween}
 use Rattle.frame_judging.proofs.Runs.{run, no-run}
-use Rattle.frame_judging.proofs.Lengths.{capped-few}
 use Rattle.frame_judging.proofs.Passes.{Left, none-yet, next-turn, none-left}
 use borrow.Author.Needs.{needs}
 use native.Mathlib.Omega.{arith}
@@ -38,7 +37,7 @@ pair-length-requires : tie.Need-pair-length-requires Inv-loop μ-loop
 pair-length-requires c κs = search needs
 
 capped-sum-requires : tie.Need-capped-sum-requires Inv-loop μ-loop
-capped-sum-requires c κs = (omega arith, rw (c .pair-length .ensures) (capped-few _))
+capped-sum-requires c κs = search needs
 
 add-i : tie.Need-add-i Inv-loop μ-loop
 add-i c = omega arith

@@ -11,29 +11,29 @@ use Rattle.frames.specs.Codes.{required}
 use Rattle.frames.specs.Held.{suits as suitsRule, Item}
 use Rattle.frames.specs.Writing.{sound as soundHeld}
 use Rattle.frame_items.specs.Content.{capped}
-use Rattle.frame_judging.proofs.Lengths.{capped-few, capped-within, capped-past, contents-counted}
+use Rattle.frame_judging.proofs.Lengths.{capped-within, capped-past, contents-counted}
 use Rattle.frame_writing.proofs.Calls.{both, Sound, Suited, There, contentsOf, call-8, call-4, call-9, call-10, call-3, call-18, call-0, no-needs, some-needs, form-long}
 use borrow.Author.Needs.{needs}
 use Rattle.frame_writing.proofs.write_frame.Statement.{statement}
 use Rattle.frame_writing.proofs.write_frame.Tie as tie
 
 -- the place of the judgement, and of what the code requires
-abbrev judging : tie.After-holds-all → tie.After-judged2
+abbrev judging : tie.After-holds-all → tie.After-body-judged
 judging c = c .before .before .before .before .before .before .before .before .before
 
-abbrev asking : tie.After-judged2 → tie.After-needs-of
+abbrev asking : tie.After-body-judged → tie.After-needs-of
 asking c = c .before .before .before .before
 
 -- what is known behind each test
-known : (c : tie.After-judged2)
+known : (c : tie.After-body-judged)
     → (let n = asking c in some (take (n .needs-of .result .count) (n .needs-of .result .keys)) ≡ required (n .before .before .before .args .frame .code))
 known c = let n = asking c in some-needs (n .needs-of .result) (n .needs-of .ensures .0) (not-false _ (c .before .before .if1 .left))
 
-four : (c : tie.After-judged2) → (let a = asking c .before .before .before .args in Sound (a .frame) (a .bytes .now) (c .before .judged .result .sound && c .judged2 .result .sound))
-four c = let a = asking c .before .before .before .args in both (a .frame) (a .bytes .now) (λ (x : Item). soundHeld (x .held)) (c .before .judged .ensures .four) (c .judged2 .ensures .four)
+four : (c : tie.After-body-judged) → (let a = asking c .before .before .before .args in Sound (a .frame) (a .bytes .now) (c .before .header-judged .result .sound && c .body-judged .result .sound))
+four c = let a = asking c .before .before .before .args in both (a .frame) (a .bytes .now) (λ (x : Item). soundHeld (x .held)) (c .before .header-judged .ensures .four) (c .body-judged .ensures .four)
 
-nine : (c : tie.After-judged2) → (let a = asking c .before .before .before .args in Suited (a .frame) (a .bytes .now) (c .before .judged .result .suited && c .judged2 .result .suited))
-nine c = let a = asking c .before .before .before .args in both (a .frame) (a .bytes .now) (λ (x : Item). suitsRule (x .rule) (x .held)) (c .before .judged .ensures .nine) (c .judged2 .ensures .nine)
+nine : (c : tie.After-body-judged) → (let a = asking c .before .before .before .args in Suited (a .frame) (a .bytes .now) (c .before .header-judged .result .suited && c .body-judged .result .suited))
+nine c = let a = asking c .before .before .before .args in both (a .frame) (a .bytes .now) (λ (x : Item). suitsRule (x .rule) (x .held)) (c .before .header-judged .ensures .nine) (c .body-judged .ensures .nine)
 
 whole : (c : tie.After-holds-all) → (let a = asking (judging c) .before .before .before .args in Sound (a .frame) (a .bytes .now) true)
 whole c = sym (not-false _ (c .before .before .before .before .if2 .left)) ∙ four (judging c)
@@ -53,7 +53,7 @@ counted : (c : tie.After-contents-length)
 counted c =
     let j = judging (c .before .before) in
     let a = asking j .before .before .before .args in
-    c .contents-length .ensures ∙ contents-counted (a .frame) (a .bytes .now) (j .before .judged .ensures .long) (j .judged2 .ensures .long)
+    c .contents-length .ensures ∙ contents-counted (a .frame) (a .bytes .now) (j .before .header-judged .ensures .long) (j .body-judged .ensures .long)
 
 sized : (c : tie.After-contents-length) → c .contents-length .result ≤ 60000
     → (let a = asking (judging (c .before .before)) .before .before .before .args in
@@ -72,11 +72,11 @@ returns c =
     let a = n .before .before .before .args in
     rw (c .refused .ensures) (call-8 (a .frame) (a .bytes .now) (a .out .now) (no-needs (n .needs-of .result) (n .needs-of .ensures .0) (not-true _ (c .before .if1 .taken))))
 
-judged-requires : tie.Need-judged-requires
-judged-requires c κs = search needs
+header-judged-requires : tie.Need-header-judged-requires
+header-judged-requires c κs = search needs
 
-judged-requires-2 : tie.Need-judged-requires-2
-judged-requires-2 c κs = search needs
+body-judged-requires : tie.Need-body-judged-requires
+body-judged-requires c κs = search needs
 
 refused-requires-2 : tie.Need-refused-requires-2
 refused-requires-2 c κs = search needs
@@ -120,7 +120,7 @@ returns-4 c =
     rw (c .refused4 .ensures) (call-10 (a .frame) (a .bytes .now) (a .out .now) (take (n .needs-of .result .count) (n .needs-of .result .keys)) (known (judging h)) (whole h) (suited h) (sym (not-true _ (c .before .if4 .taken)) ∙ h .holds-all .ensures))
 
 contents-length-requires : tie.Need-contents-length-requires
-contents-length-requires c κs = let j = judging (c .before) in (rw (j .before .judged .ensures .long) (capped-few _), rw (j .judged2 .ensures .long) (capped-few _))
+contents-length-requires c κs = search needs
 
 refused-requires-5 : tie.Need-refused-requires-5
 refused-requires-5 c κs = search needs
@@ -158,7 +158,7 @@ put-frame-requires c κs =
     let a = n .before .before .before .args in
     let e = sized l (c .before .before .if5 .left) in
     let f = form-long (contentsOf (a .frame) (a .bytes .now)) in
-    ((e, (judging h .before .judged .ensures .many, judging h .judged2 .ensures .many)), omega arith)
+    ((e, (judging h .before .header-judged .ensures .many, judging h .body-judged .ensures .many)), omega arith)
 
 same-length : tie.Need-same-length
 same-length c = search needs
@@ -182,8 +182,8 @@ write-frame-spec =
     needs-of-requires
     refused-requires
     returns
-    judged-requires
-    judged-requires-2
+    header-judged-requires
+    body-judged-requires
     refused-requires-2
     returns-2
     refused-requires-3
