@@ -4,8 +4,8 @@ use Prim.Native.Nat.{ℕ, _<_, _≤_}
 use native.Mathlib.Nat.{zero-add}
 use borrow.Author.Tests.{le-leb, lt-leb}
 use lib.ListN.{length}
-use Rattle.first_bytes.specs.Bytes.{Bytes}
-use Rattle.writing.proofs.Put.{Wrote}
+use Rattle.msgpack_first_bytes.specs.Bytes.{Bytes}
+use Rattle.msgpack_writing.proofs.Put.{Wrote}
 use Rattle.tuples.specs.Call.{bytes, refusal, refusing, writing, delivered}
 use Rattle.tuples.specs.declared.Answer.{Answer}
 use Rattle.tuples.specs.declared.Refusal.{Refusal}

@@ -1,6 +1,6 @@
 -- What a caller sees of a call: the answer, and the lent buffer afterwards.
 use Prim.Native.Nat.{ℕ}
-use Rattle.first_bytes.specs.Bytes.{Bytes}
+use Rattle.msgpack_first_bytes.specs.Bytes.{Bytes}
 use Rattle.tuples.specs.Call.{numberOf, Result}
 use Rattle.tuples.specs.declared.Answer.{Answer}
 use Rattle.tuples.specs.declared.Refusal.{Refusal}

@@ -3,7 +3,7 @@ use tuples::Answer;
 use tuples::Refusal;
 ghost use mathlib.Core.Path.{_≡_};
 ghost use mathlib.Core.List.{_++_};
-ghost use Rattle.writing.specs.Forms.{arrayHeader};
+ghost use Rattle.msgpack_writing.specs.Forms.{arrayHeader};
 ghost use Rattle.tuples.specs.Call.{numberOf, bytes, delivered};
 ghost use Rattle.answers.specs.Seen.{refusalOf, seen};
 
@@ -36,12 +36,12 @@ pub fn refused(refusal: Refusal, operation: u32) -> Answer
 pub fn deliver(count: u32, values: &[u8], out: &mut [u8]) -> Answer
     ensures { λ r. ⌜ seen r (now (out .exit)) ≡ delivered (bytes (arrayHeader count ++ now (values .entry))) (now (out .entry)) ⌝ }
 {
-    let length = headers::array_header_length(count) + values.len();
+    let length = msgpack_headers::array_header_length(count) + values.len();
     if out.len() < length {
         return refused(Refusal::ShortBuffer, 0);
     }
-    let at = headers::write_array_header(out, 0, count);
-    writing::write_bytes(out, at, values);
+    let at = msgpack_headers::write_array_header(out, 0, count);
+    msgpack_writing::write_bytes(out, at, values);
     Answer {
         number: 0,
         operation: 0,

@@ -10,14 +10,14 @@ use native.Mathlib.Omega.{arith}
 use borrow.Author.Tests.{le-leb, lt-leb, lt-ltb, le-ltb}
 use lib.IntN.{ℤ, pos, negsuc, _+ℤ_, _-ℤ_}
 use lib.ListN.{length, drop}
-use Rattle.first_bytes.specs.Bytes.{Bytes, pick}
-use Rattle.scalars.specs.declared.Int.{Int}
-use Rattle.scalars.specs.declared.Int.the-variants.{FromZero, BelowZero}
-use Rattle.writing.specs.Put.{next}
-use Rattle.writing.specs.Put as Written
-use Rattle.writing.proofs.Choice.{either, by-ltb}
-use Rattle.writing.proofs.Lengths.{Long, unsigned-long, negative-long}
-use Rattle.read_back.specs.Claims.{integerForm, InRange}
+use Rattle.msgpack_first_bytes.specs.Bytes.{Bytes, pick}
+use Rattle.msgpack_scalars.specs.declared.Int.{Int}
+use Rattle.msgpack_scalars.specs.declared.Int.the-variants.{FromZero, BelowZero}
+use Rattle.msgpack_writing.specs.Put.{next}
+use Rattle.msgpack_writing.specs.Put as Written
+use Rattle.msgpack_writing.proofs.Choice.{either, by-ltb}
+use Rattle.msgpack_writing.proofs.Lengths.{Long, unsigned-long, negative-long}
+use Rattle.msgpack_read_back.specs.Claims.{integerForm, InRange}
 use Rattle.tuples.specs.Limits.{maxTuple}
 use Rattle.tuples.specs.Decoding.{Got, anyInteger, atLeast}
 use Rattle.tuples.specs.Edit.{Edit, refuse, put, asℤ, ranged, became, suited, altered, editAt}

@@ -7,7 +7,7 @@ use mathlib.Core.Path.{_≡_}
 use mathlib.Core.Logic.{_⊎_}
 use lib.Dec.{leb}
 use lib.ListN.{length, drop}
-use Rattle.first_bytes.specs.Bytes.{Bytes, pick}
+use Rattle.msgpack_first_bytes.specs.Bytes.{Bytes, pick}
 use Rattle.tuples.specs.Limits.{maxTuple}
 use Rattle.tuples.specs.Edit.{Edit, refuse, put, add, cut}
 use Rattle.tuples.specs.declared.Refusal.{Refusal}

@@ -4,9 +4,9 @@ use mathlib.Core.Bool.{Bool}
 use mathlib.Core.List.{[], _∷_}
 use mathlib.Core.Option.{Option, none, some}
 use lib.Bits.{bitAnd, bitXor, bitOr}
-use Rattle.first_bytes.specs.Bytes.{Bytes, pick}
-use Rattle.scalars.specs.declared.Int.{Int}
-use Rattle.read_back.specs.Claims.{integerForm, InRange}
+use Rattle.msgpack_first_bytes.specs.Bytes.{Bytes, pick}
+use Rattle.msgpack_scalars.specs.declared.Int.{Int}
+use Rattle.msgpack_read_back.specs.Claims.{integerForm, InRange}
 use Rattle.tuples.specs.Operation.{plus, minus, and, xor, or}
 use Rattle.tuples.specs.Operation as Law
 use Rattle.tuples.specs.Edit.{Edit, editAt}

@@ -1,16 +1,16 @@
 // Numbers computed by `+ - & ^ |`, in their shortest forms.
+use msgpack_scalars::Int;
 use parts::Natural;
 use parts::Signed;
-use scalars::Int;
 use sums::Sum;
 use tuples::Refusal;
 ghost use mathlib.Core.Path.{_≡_};
 ghost use mathlib.Core.Option.{some};
 ghost use lib.IntN.{_+ℤ_, _-ℤ_};
-ghost use Rattle.first_bytes.specs.Bytes.{pick};
-ghost use Rattle.writing.specs.Put.{next};
-ghost use Rattle.writing.specs.Put as Writing;
-ghost use Rattle.read_back.specs.Claims.{integerForm, InRange};
+ghost use Rattle.msgpack_first_bytes.specs.Bytes.{pick};
+ghost use Rattle.msgpack_writing.specs.Put.{next};
+ghost use Rattle.msgpack_writing.specs.Put as Writing;
+ghost use Rattle.msgpack_read_back.specs.Claims.{integerForm, InRange};
 ghost use Rattle.tuples.specs.Edit.{put, became, asℤ};
 ghost use Rattle.sums.specs.Range.{inRange};
 ghost use Rattle.computing.specs.Altering.{Alters};
@@ -36,8 +36,8 @@ fn write_number(z: Int, work: &mut [u8]) -> usize
         × (now (work .exit) ≡ Writing.put 0 (integerForm z) (now (work .entry))) ⌝ }
 {
     match z {
-        Int::FromZero(n) => writing::write_unsigned(work, 0, n),
-        Int::BelowZero(m) => writing::write_negative(work, 0, m),
+        Int::FromZero(n) => msgpack_writing::write_unsigned(work, 0, n),
+        Int::BelowZero(m) => msgpack_writing::write_negative(work, 0, m),
     }
 }
 

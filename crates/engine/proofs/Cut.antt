@@ -6,8 +6,8 @@ use native.Mathlib.Omega.{arith}
 use native.Mathlib.Numerals.{add-one}
 use lib.ListN.{length, take, drop, getD, length-drop, take-append-drop}
 use lib.Seq.{take-at, drop-at, length-take-le, drop-drop, take-take, take-suc, take-add, take-length}
-use Rattle.first_bytes.specs.Bytes.{Bytes}
-use Rattle.values.specs.Pieces.{joined}
+use Rattle.msgpack_first_bytes.specs.Bytes.{Bytes}
+use Rattle.msgpack_values.specs.Pieces.{joined}
 use Rattle.tuples.specs.Edit.{spliced}
 use Rattle.moves.proofs.Splice.{drop-take}
 use Rattle.engine.specs.Held.{sum, cutInto, lengthsOf}

@@ -7,8 +7,8 @@ use native.Mathlib.Omega.{arith}
 use borrow.Author.Tests.{le-leb, lt-leb, leb-true, leb-false}
 use lib.Dec.{leb}
 use lib.ListN.{length, take}
-use Rattle.first_bytes.specs.Bytes.{Bytes, pick}
-use Rattle.writing.specs.Forms.{arrayHeader}
+use Rattle.msgpack_first_bytes.specs.Bytes.{Bytes, pick}
+use Rattle.msgpack_writing.specs.Forms.{arrayHeader}
 use Rattle.tuples.specs.Limits.{maxFields, maxTuple}
 use Rattle.tuples.specs.Edit.{stop}
 use Rattle.tuples.specs.declared.Refusal.the-variants.{NoField, TooLarge}

@@ -8,9 +8,9 @@ use borrow.Author.Tests.{le-leb, lt-leb, leb-true}
 use lib.Dec.{leb}
 use lib.ListN.{length, take, drop, length-append, length-drop}
 use lib.Seq.{length-take-le, take-take, take-all}
-use Rattle.first_bytes.specs.Bytes.{Bytes, pick}
-use Rattle.values.specs.Pieces.{joined}
-use Rattle.writing.specs.Forms.{arrayHeader}
+use Rattle.msgpack_first_bytes.specs.Bytes.{Bytes, pick}
+use Rattle.msgpack_values.specs.Pieces.{joined}
+use Rattle.msgpack_writing.specs.Forms.{arrayHeader}
 use Rattle.tuples.specs.Limits.{maxFields, maxTuple}
 use Rattle.tuples.specs.Tuple.{Fields}
 use Rattle.tuples.specs.Edit.{Step, stop, next, spliced, fits}

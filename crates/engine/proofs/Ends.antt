@@ -7,7 +7,7 @@ use borrow.Author.Tests.{le-leb, leb-true}
 use lib.Dec.{leb}
 use lib.ListN.{length, take}
 use mathlib.Core.List.{List}
-use Rattle.first_bytes.specs.Bytes.{pick}
+use Rattle.msgpack_first_bytes.specs.Bytes.{pick}
 use Rattle.tuples.specs.Limits.{maxFields, maxTuple}
 use Rattle.tuples.proofs.Cases.{both-hold}
 use Rattle.engine.specs.Held.{sum, holds, endOf}

@@ -5,8 +5,8 @@ use mathlib.Core.Bool.{Bool, _&&_}
 use mathlib.Core.List.{List, [], _∷_}
 use lib.Dec.{leb}
 use lib.ListN.{length, take}
-use Rattle.first_bytes.specs.Bytes.{Bytes, pick}
-use Rattle.writing.specs.Forms.{arrayHeader}
+use Rattle.msgpack_first_bytes.specs.Bytes.{Bytes, pick}
+use Rattle.msgpack_writing.specs.Forms.{arrayHeader}
 use Rattle.tuples.specs.Limits.{maxFields, maxTuple}
 use Rattle.tuples.specs.declared.Refusal.the-variants.{NoField, TooLarge}
 use Rattle.engine.specs.Held.{sum, heldIn}

@@ -5,8 +5,8 @@ use mathlib.Core.Bool.{Bool, _&&_}
 use mathlib.Core.List.{List, [], _∷_, _++_}
 use lib.Dec.{leb}
 use lib.ListN.{length, take, drop}
-use Rattle.first_bytes.specs.Bytes.{Bytes, pick}
-use Rattle.values.specs.Pieces.{joined}
+use Rattle.msgpack_first_bytes.specs.Bytes.{Bytes, pick}
+use Rattle.msgpack_values.specs.Pieces.{joined}
 use Rattle.tuples.specs.Limits.{maxFields, maxTuple}
 use Rattle.tuples.specs.Tuple.{Fields}
 use Rattle.tuples.specs.Edit.{Step, stop, next, spliced, fits}

@@ -1,7 +1,7 @@
 // What a known key of a record holds: whether it is sound, suits its rule, is written, and how long it is then.
 use frames::Place;
 use frames::Rule;
-use values::Read;
+use msgpack_values::Read;
 ghost use mathlib.Core.Path.{_≡_};
 ghost use Prim.Native.Nat.{_+_};
 ghost use lib.ListN.{length};
@@ -27,7 +27,7 @@ pub struct KnownKey {
 fn view_sound(v: &[u8]) -> bool
     ensures { λ r. ⌜ r ≡ sound (encoding (now (v .entry))) ⌝ }
 {
-    match values::read_value(v, 0, 15) {
+    match msgpack_values::read_value(v, 0, 15) {
         Read::Whole(end) => end == v.len(),
         Read::Broken(_) => false,
     }
@@ -106,7 +106,7 @@ pub fn pair_length(bytes: &[u8], content: Content) -> usize
     match content {
         Content::Absent => 0,
         Content::Outside => 0,
-        Content::Number(n) => with_key(writing::unsigned_length(n)),
+        Content::Number(n) => with_key(msgpack_writing::unsigned_length(n)),
         Content::View(place) => with_key(frame_fields::view_of(bytes, place).len()),
     }
 }

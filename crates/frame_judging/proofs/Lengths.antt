@@ -6,10 +6,10 @@ use Prim.Native.Nat.{ℕ, _+_, _<_, _≤_, min}
 use native.Mathlib.Omega.{arith}
 use borrow.Author.Tests.{lt-ltb}
 use lib.ListN.{length, length-append}
-use Rattle.first_bytes.specs.Bytes.{Bytes}
-use Rattle.values.specs.Pieces.{joined}
-use Rattle.writing.specs.Forms.{mapHeader}
-use Rattle.writing.proofs.Choice.{either}
+use Rattle.msgpack_first_bytes.specs.Bytes.{Bytes}
+use Rattle.msgpack_values.specs.Pieces.{joined}
+use Rattle.msgpack_writing.specs.Forms.{mapHeader}
+use Rattle.msgpack_writing.proofs.Choice.{either}
 use Rattle.frames.specs.declared.Frame.{Frame}
 use Rattle.frames.specs.Held.{Item, encoded}
 use Rattle.frames.specs.Keys.{headerItems, bodyItems}

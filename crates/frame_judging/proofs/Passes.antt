@@ -5,7 +5,7 @@ use mathlib.Core.List.{List, [], _∷_}
 use Prim.Native.Nat.{ℕ, _+_, _≤_}
 use native.Mathlib.Omega.{arith}
 use lib.ListN.{length}
-use Rattle.first_bytes.specs.Bytes.{Bytes, pick}
+use Rattle.msgpack_first_bytes.specs.Bytes.{Bytes, pick}
 use Rattle.frames.specs.Held.{all, suits, encoded, Item}
 use Rattle.frames.specs.Writing.{sound, pairs}
 use Rattle.frame_items.specs.Content.{heldOf, itemOf, isWritten, pairLength, capped}

@@ -9,8 +9,8 @@ use native.Mathlib.Numerals.{add-one}
 use borrow.Author.Tests.{eq-eqb, ne-eqb}
 use lib.ListN.{length, getD}
 use lib.Seq.{slice, slice-empty, slice-cons}
-use Rattle.first_bytes.specs.Bytes.{Bytes}
-use Rattle.values.specs.Pieces.{joined}
+use Rattle.msgpack_first_bytes.specs.Bytes.{Bytes}
+use Rattle.msgpack_values.specs.Pieces.{joined}
 use Rattle.frames.specs.declared.Frame.{Frame}
 use Rattle.frames.specs.Held.{encoded, present, Item, locate}
 use Rattle.frames.specs.Keys.{headerItems, bodyItems}

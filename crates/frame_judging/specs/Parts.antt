@@ -3,8 +3,8 @@ use Prim.Native.Nat.{ℕ}
 use mathlib.Core.List.{List, [], _∷_}
 use mathlib.Core.Option.{Option, none, some}
 use lib.Seq.{slice}
-use Rattle.first_bytes.specs.Bytes.{Bytes}
-use Rattle.values.specs.Pieces.{joined}
+use Rattle.msgpack_first_bytes.specs.Bytes.{Bytes}
+use Rattle.msgpack_values.specs.Pieces.{joined}
 use Rattle.frames.specs.declared.Frame.{Frame}
 use Rattle.frames.specs.Held.{Item}
 use Rattle.frames.specs.Writing.{pairs, flat}

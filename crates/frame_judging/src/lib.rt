@@ -3,7 +3,7 @@ use frame_items::Content;
 use frames::Frame;
 ghost use mathlib.Core.Path.{_≡_};
 ghost use Prim.Native.Nat.{ℕ, _+_, _≤_};
-ghost use Rattle.first_bytes.specs.Bytes.{pick};
+ghost use Rattle.msgpack_first_bytes.specs.Bytes.{pick};
 ghost use Rattle.frames.specs.Held.{all, encoded, present, locate};
 ghost use Rattle.frames.specs.Keys.{bodyItems};
 ghost use Rattle.frame_items.specs.Content.{isWritten, capped};

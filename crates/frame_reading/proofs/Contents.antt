@@ -9,20 +9,20 @@ use borrow.Author.Tests.{le-leb, lt-leb, eq-eqb, ne-eqb, leb-true, leb-false, lt
 use lib.Dec.{leb, ltb, eqb}
 use lib.ListN.{length, take, drop, length-drop, drop-of-length-le}
 use lib.Seq.{drop-cons}
-use Rattle.first_bytes.specs.Bytes.{Bytes, pick}
-use Rattle.values.specs.Value.{shift, value}
-use Rattle.values.specs.declared.Read.{Read}
-use Rattle.values.specs.declared.Read.the-variants.{Whole, Broken}
-use Rattle.values.proofs.Local.{shift-whole, value-good, value-pos}
-use Rattle.first_bytes.specs.FirstByte.{formOf}
-use Rattle.first_bytes.specs.declared.Kind.the-variants.{Unsigned}
-use Rattle.scalars.specs.Start.{scalarOf}
-use Rattle.scalars.specs.Integer.{dueIn, due, unsignedBy, unsigned, shiftNatural}
-use Rattle.scalars.specs.declared.Start.{Start}
-use Rattle.scalars.specs.declared.Start.the-variants.{Here, Elsewhere}
-use Rattle.scalars.specs.declared.Due.the-variants.{More, Cut as CutDue}
-use Rattle.scalars.specs.declared.Natural.{Natural}
-use Rattle.scalars.specs.declared.Natural.the-variants.{Is, Cut, Other}
+use Rattle.msgpack_first_bytes.specs.Bytes.{Bytes, pick}
+use Rattle.msgpack_values.specs.Value.{shift, value}
+use Rattle.msgpack_values.specs.declared.Read.{Read}
+use Rattle.msgpack_values.specs.declared.Read.the-variants.{Whole, Broken}
+use Rattle.msgpack_values.proofs.Local.{shift-whole, value-good, value-pos}
+use Rattle.msgpack_first_bytes.specs.FirstByte.{formOf}
+use Rattle.msgpack_first_bytes.specs.declared.Kind.the-variants.{Unsigned}
+use Rattle.msgpack_scalars.specs.Start.{scalarOf}
+use Rattle.msgpack_scalars.specs.Integer.{dueIn, due, unsignedBy, unsigned, shiftNatural}
+use Rattle.msgpack_scalars.specs.declared.Start.{Start}
+use Rattle.msgpack_scalars.specs.declared.Start.the-variants.{Here, Elsewhere}
+use Rattle.msgpack_scalars.specs.declared.Due.the-variants.{More, Cut as CutDue}
+use Rattle.msgpack_scalars.specs.declared.Natural.{Natural}
+use Rattle.msgpack_scalars.specs.declared.Natural.the-variants.{Is, Cut, Other}
 use Rattle.frames.specs.declared.FrameAnswer.{FrameAnswer}
 use Rattle.frames.specs.declared.Size.the-variants.{Promises, Refused}
 use Rattle.frames.specs.Limits.{maxSize, maxDepth, heldDepth}

@@ -4,7 +4,7 @@ use mathlib.Core.List.{List, []}
 use mathlib.Core.Option.{Option, some}
 use lib.Dec.{ltb}
 use lib.ListN.{length}
-use Rattle.first_bytes.specs.Bytes.{Bytes, pick}
+use Rattle.msgpack_first_bytes.specs.Bytes.{Bytes, pick}
 use Rattle.frames.specs.Limits.{heldDepth}
 use Rattle.frames.specs.Maps.{Entry, entriesAt}
 use Rattle.frame_reading.specs.declared.Body.{Body}

@@ -4,8 +4,8 @@ use frames::FrameAnswer;
 use frames::OptionalNumber;
 use frames::Place;
 use frames::Size;
-use scalars::Natural;
-use values::Read;
+use msgpack_scalars::Natural;
+use msgpack_values::Read;
 ghost use mathlib.Core.Path.{_≡_};
 ghost use Rattle.frames.specs.Keys.{emptyFrame};
 ghost use Rattle.frames.specs.Limits.{heldDepth};
@@ -24,7 +24,7 @@ enum Body {
 pub fn read_size(s: &[u8]) -> Size
     ensures { λ r. ⌜ r ≡ sizeOf (now (s .entry)) ⌝ }
 {
-    match scalars::unsigned_at(s, 0) {
+    match msgpack_scalars::unsigned_at(s, 0) {
         Natural::Is(n, from) => {
             if n == 0 {
                 return Size::Refused(3);
@@ -169,13 +169,13 @@ fn judge(s: &[u8], at: usize, body: Body) -> FrameAnswer
 pub fn read_contents(s: &[u8], at: usize) -> FrameAnswer
     ensures { λ r. ⌜ r ≡ inFrame (now (s .entry)) at ⌝ }
 {
-    let Read::Whole(end) = values::read_value(s, at, 16) else {
+    let Read::Whole(end) = msgpack_values::read_value(s, at, 16) else {
         return refused(4);
     };
     let Body::At(from) = body_at(s, end) else {
         return judge(s, at, Body::Missing);
     };
-    let Read::Whole(last) = values::read_value(s, from, 16) else {
+    let Read::Whole(last) = msgpack_values::read_value(s, from, 16) else {
         return refused(4);
     };
     if last < s.len() {

@@ -9,13 +9,13 @@ use borrow.Author.Tests.{le-leb}
 use lib.Dec.{eqb}
 use lib.ListN.{length, drop, length-append, length-drop}
 use lib.Seq.{take-length, take-append-seam, drop-append-seam, drop-drop}
-use Rattle.first_bytes.specs.Bytes.{Bytes, pick}
-use Rattle.values.specs.Value.{value}
-use Rattle.values.specs.Pieces.{joined, Each}
-use Rattle.values.specs.declared.Read.the-variants.{Whole}
-use Rattle.values.proofs.Local.{value-local, value-pos}
-use Rattle.writing.specs.Forms.{mapHeader}
-use Rattle.read_back.proofs.Back as back
+use Rattle.msgpack_first_bytes.specs.Bytes.{Bytes, pick}
+use Rattle.msgpack_values.specs.Value.{value}
+use Rattle.msgpack_values.specs.Pieces.{joined, Each}
+use Rattle.msgpack_values.specs.declared.Read.the-variants.{Whole}
+use Rattle.msgpack_values.proofs.Local.{value-local, value-pos}
+use Rattle.msgpack_writing.specs.Forms.{mapHeader}
+use Rattle.msgpack_read_back.proofs.Back as back
 use Rattle.frames.specs.declared.Place.{Place}
 use Rattle.frames.specs.Limits.{maxKey}
 use Rattle.frames.specs.Held.{view}

@@ -7,17 +7,17 @@ use native.Mathlib.Omega.{arith}
 use borrow.Author.Tests.{lt-ltb, le-leb}
 use lib.ListN.{length, length-append}
 use lib.Seq.{take-at}
-use Rattle.first_bytes.specs.Bytes.{Bytes}
-use Rattle.first_bytes.specs.FirstByte.{formOf, sameKind}
-use Rattle.values.specs.Value.{value}
-use Rattle.values.specs.declared.Read.the-variants.{Whole}
-use Rattle.scalars.specs.Integer.{dueIn, due, naturalOf, unsignedBy, unsigned}
-use Rattle.scalars.specs.declared.Natural.the-variants.{Is}
-use Rattle.scalars.specs.declared.Int.the-variants.{FromZero}
-use Rattle.writing.specs.Forms.{bigEndian, tagged, unsignedForm}
-use Rattle.writing.proofs.Lengths.{length-bigEndian}
-use Rattle.read_back.proofs.Digits.{number-bigEndian}
-use Rattle.read_back.proofs.Back.{unsigned-back, integer-whole}
+use Rattle.msgpack_first_bytes.specs.Bytes.{Bytes}
+use Rattle.msgpack_first_bytes.specs.FirstByte.{formOf, sameKind}
+use Rattle.msgpack_values.specs.Value.{value}
+use Rattle.msgpack_values.specs.declared.Read.the-variants.{Whole}
+use Rattle.msgpack_scalars.specs.Integer.{dueIn, due, naturalOf, unsignedBy, unsigned}
+use Rattle.msgpack_scalars.specs.declared.Natural.the-variants.{Is}
+use Rattle.msgpack_scalars.specs.declared.Int.the-variants.{FromZero}
+use Rattle.msgpack_writing.specs.Forms.{bigEndian, tagged, unsignedForm}
+use Rattle.msgpack_writing.proofs.Lengths.{length-bigEndian}
+use Rattle.msgpack_read_back.proofs.Digits.{number-bigEndian}
+use Rattle.msgpack_read_back.proofs.Back.{unsigned-back, integer-whole}
 use Rattle.frames.specs.Held.{natural}
 
 pub unsigned-form : (n : ℕ) → n < 2 ^ 64 → natural (unsigned (unsignedForm n)) ≡ some n

@@ -9,15 +9,15 @@ use borrow.Author.Tests.{ltb-true, leb-true, le-leb, eq-eqb}
 use lib.Dec.{leb, ltb}
 use lib.ListN.{length, take, drop, length-append}
 use lib.Seq.{take-at, drop-at, take-append-seam, drop-append-seam, drop-drop}
-use Rattle.first_bytes.specs.Bytes.{Bytes}
-use Rattle.values.specs.Value.{value}
-use Rattle.values.specs.Pieces.{joined}
-use Rattle.values.specs.declared.Read.the-variants.{Whole}
-use Rattle.values.proofs.Local.{value-pos}
-use Rattle.scalars.specs.Integer.{unsigned}
-use Rattle.scalars.specs.declared.Natural.the-variants.{Is}
-use Rattle.writing.specs.Forms.{bigEndian, tagged, mapHeader}
-use Rattle.writing.proofs.Lengths.{length-bigEndian}
+use Rattle.msgpack_first_bytes.specs.Bytes.{Bytes}
+use Rattle.msgpack_values.specs.Value.{value}
+use Rattle.msgpack_values.specs.Pieces.{joined}
+use Rattle.msgpack_values.specs.declared.Read.the-variants.{Whole}
+use Rattle.msgpack_values.proofs.Local.{value-pos}
+use Rattle.msgpack_scalars.specs.Integer.{unsigned}
+use Rattle.msgpack_scalars.specs.declared.Natural.the-variants.{Is}
+use Rattle.msgpack_writing.specs.Forms.{bigEndian, tagged, mapHeader}
+use Rattle.msgpack_writing.proofs.Lengths.{length-bigEndian}
 use Rattle.frames.specs.declared.Place.{Place}
 use Rattle.frames.specs.declared.Frame.{Frame}
 use Rattle.frames.specs.declared.FrameAnswer.{FrameAnswer}

@@ -3,7 +3,7 @@ use Prim.Native.Nat.{ℕ, _≤_}
 use mathlib.Core.Path.{_≡_}
 use mathlib.Core.List.{_++_}
 use lib.ListN.{length, take, drop}
-use Rattle.first_bytes.specs.Bytes.{Bytes}
+use Rattle.msgpack_first_bytes.specs.Bytes.{Bytes}
 use Rattle.frames.specs.declared.Frame.{Frame}
 use Rattle.frames.specs.Keys.{headerItems, bodyItems}
 use Rattle.frames.specs.Reading.{frameRead}

@@ -9,13 +9,13 @@ use native.Mathlib.Omega.{arith}
 use borrow.Author.Tests.{le-leb, lt-leb, ne-eqb}
 use lib.Dec.{leb}
 use lib.ListN.{length, take}
-use Rattle.first_bytes.specs.Bytes.{Bytes}
-use Rattle.scalars.specs.Integer.{unsigned, shiftNatural}
-use Rattle.scalars.specs.Header.{shiftHeader}
-use Rattle.scalars.specs.declared.Natural.{Natural}
-use Rattle.scalars.specs.declared.Natural.the-variants.{Is, Cut, Other}
-use Rattle.scalars.specs.declared.Header.{Header}
-use Rattle.scalars.specs.declared.Header.the-variants.{Is as Opens, Other as Elsewhere}
+use Rattle.msgpack_first_bytes.specs.Bytes.{Bytes}
+use Rattle.msgpack_scalars.specs.Integer.{unsigned, shiftNatural}
+use Rattle.msgpack_scalars.specs.Header.{shiftHeader}
+use Rattle.msgpack_scalars.specs.declared.Natural.{Natural}
+use Rattle.msgpack_scalars.specs.declared.Natural.the-variants.{Is, Cut, Other}
+use Rattle.msgpack_scalars.specs.declared.Header.{Header}
+use Rattle.msgpack_scalars.specs.declared.Header.the-variants.{Is as Opens, Other as Elsewhere}
 use Rattle.frames.specs.Held.{natural, numbered, heldIn, suits, opened}
 use Rattle.frames.specs.Codes.{codes, among, isError, required}
 use Rattle.frames.specs.declared.Rule.the-variants.{AtMost}

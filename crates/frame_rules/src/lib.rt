@@ -1,13 +1,13 @@
 // What a known key must hold, and what a code requires: the two judgements that reading and writing share.
 use frames::Rule;
-use scalars::Header;
-use scalars::Natural;
-use scalars::Opening;
+use msgpack_scalars::Header;
+use msgpack_scalars::Natural;
+use msgpack_scalars::Opening;
 ghost use mathlib.Core.Path.{_≡_};
 ghost use Prim.Native.Nat.{_≤_};
 ghost use lib.ListN.{length};
-ghost use Rattle.scalars.specs.Start.{startBy};
-ghost use Rattle.scalars.specs.Header.{header};
+ghost use Rattle.msgpack_scalars.specs.Start.{startBy};
+ghost use Rattle.msgpack_scalars.specs.Header.{header};
 ghost use Rattle.frames.specs.Held.{heldIn, suits, opened};
 ghost use Rattle.frames.specs.Codes.{required};
 ghost use Rattle.frame_rules.specs.Needs.{needed, knownNeeds};
@@ -22,7 +22,7 @@ pub struct Needs {
 fn opens(v: &[u8], opening: Opening) -> bool
     ensures { λ r. ⌜ r ≡ opened (header (startBy opening) (now (v .entry))) ⌝ }
 {
-    match scalars::header_at(v, 0, opening) {
+    match msgpack_scalars::header_at(v, 0, opening) {
         Header::Is(_, _) => true,
         Header::Other => false,
     }
@@ -31,7 +31,7 @@ fn opens(v: &[u8], opening: Opening) -> bool
 fn at_most(v: &[u8], limit: u64) -> bool
     ensures { λ r. ⌜ r ≡ suits (Rule.AtMost limit) (heldIn (Rule.AtMost limit) (now (v .entry))) ⌝ }
 {
-    match scalars::unsigned_at(v, 0) {
+    match msgpack_scalars::unsigned_at(v, 0) {
         Natural::Is(n, _) => n <= limit,
         Natural::Cut => false,
         Natural::Other => false,

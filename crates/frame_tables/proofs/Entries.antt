@@ -11,19 +11,19 @@ use lib.Dec.{leb}
 use lib.ListN.{length, drop, length-drop}
 use types.Run.{OneOf}
 use denote.Enum.Declared.{tagOf}
-use Rattle.first_bytes.specs.Bytes.{Bytes}
-use Rattle.values.specs.Value.{shift, value}
-use Rattle.values.specs.declared.Read.{Read}
-use Rattle.values.specs.declared.Read.the-variants.{Whole, Broken}
-use Rattle.values.proofs.Local.{value-good, value-pos}
-use Rattle.scalars.specs.Integer.{unsigned, shiftNatural}
-use Rattle.scalars.specs.Start.{mapBy}
-use Rattle.scalars.specs.Header.{header, shiftHeader}
-use Rattle.scalars.specs.declared.Header.{Header}
-use Rattle.scalars.specs.declared.Header.the-variants.{Is as Opens, Other as Elsewhere}
-use Rattle.scalars.specs.declared.Natural.{Natural}
-use Rattle.scalars.specs.declared.Natural.the-variants.{Is, Cut, Other}
-use Rattle.scalars.proofs.Natural as natural-type
+use Rattle.msgpack_first_bytes.specs.Bytes.{Bytes}
+use Rattle.msgpack_values.specs.Value.{shift, value}
+use Rattle.msgpack_values.specs.declared.Read.{Read}
+use Rattle.msgpack_values.specs.declared.Read.the-variants.{Whole, Broken}
+use Rattle.msgpack_values.proofs.Local.{value-good, value-pos}
+use Rattle.msgpack_scalars.specs.Integer.{unsigned, shiftNatural}
+use Rattle.msgpack_scalars.specs.Start.{mapBy}
+use Rattle.msgpack_scalars.specs.Header.{header, shiftHeader}
+use Rattle.msgpack_scalars.specs.declared.Header.{Header}
+use Rattle.msgpack_scalars.specs.declared.Header.the-variants.{Is as Opens, Other as Elsewhere}
+use Rattle.msgpack_scalars.specs.declared.Natural.{Natural}
+use Rattle.msgpack_scalars.specs.declared.Natural.the-variants.{Is, Cut, Other}
+use Rattle.msgpack_scalars.proofs.Natural as natural-type
 use Rattle.frames.specs.Limits.{heldDepth, maxKey}
 use Rattle.frames.specs.Maps.{Entry, entry, keyed, entryAt, entries, entriesBy, entriesAt}
 use Rattle.frames.specs.Cascade.{check, given, whole}

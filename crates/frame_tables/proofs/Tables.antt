@@ -5,7 +5,7 @@ use mathlib.Core.Option.{Option, none, some}
 use Prim.Native.Nat.{ℕ, suc, _+_}
 use borrow.Author.Tests.{eq-eqb, ne-eqb}
 use lib.ListN.{length, getD, set}
-use Rattle.first_bytes.specs.Bytes.{Bytes}
+use Rattle.msgpack_first_bytes.specs.Bytes.{Bytes}
 use Rattle.frames.specs.Keys.{nowhere}
 use Rattle.frames.specs.Maps.{Entry, entryAt, entries, placed}
 use Rattle.frames.specs.Cascade.{given}

@@ -4,7 +4,7 @@ use mathlib.Core.List.{List, [], _∷_}
 use mathlib.Core.Option.{Option, none, some}
 use lib.Dec.{eqb}
 use lib.ListN.{getD, set, replicate}
-use Rattle.first_bytes.specs.Bytes.{pick}
+use Rattle.msgpack_first_bytes.specs.Bytes.{pick}
 use Rattle.frames.specs.declared.Place.{Place}
 use Rattle.frames.specs.Keys.{nowhere}
 use Rattle.frames.specs.Maps.{Entry, placed}

@@ -1,9 +1,9 @@
 // A map of a frame into a table: one pass, after which each key is a look-up.
 use frames::Place;
-use scalars::Header;
-use scalars::Natural;
-use scalars::Opening;
-use values::Read;
+use msgpack_scalars::Header;
+use msgpack_scalars::Natural;
+use msgpack_scalars::Opening;
+use msgpack_values::Read;
 ghost use mathlib.Core.Path.{_≡_};
 ghost use lib.ListN.{getD};
 ghost use Rattle.frames.specs.Keys.{nowhere};
@@ -21,13 +21,13 @@ enum Step {
 fn entry_at(s: &[u8], at: usize) -> Step
     ensures { λ r. ⌜ r ≡ stepOf (entryAt heldDepth (now (s .entry)) at) ⌝ }
 {
-    let Natural::Is(key, start) = scalars::unsigned_at(s, at) else {
+    let Natural::Is(key, start) = msgpack_scalars::unsigned_at(s, at) else {
         return Step::NoKey;
     };
     if 127 < key {
         return Step::NoKey;
     }
-    let Read::Whole(end) = values::read_value(s, start, 15) else {
+    let Read::Whole(end) = msgpack_values::read_value(s, start, 15) else {
         return Step::NoKey;
     };
     Step::Entry(key as usize, start, end - start)
@@ -79,7 +79,7 @@ pub fn table_at(s: &[u8], at: usize, starts: &mut [usize; 128], lengths: &mut [u
     ensures { λ r. ⌜ table r (now (starts .exit)) (now (lengths .exit))
         ≡ tabledOn (table 0 (now (starts .entry)) (now (lengths .entry))) (entriesAt heldDepth (now (s .entry)) at) ⌝ }
 {
-    match scalars::header_at(s, at, Opening::Map) {
+    match msgpack_scalars::header_at(s, at, Opening::Map) {
         Header::Is(count, from) => table_of(s, count, from, starts, lengths),
         Header::Other => no_table(starts, lengths),
     }

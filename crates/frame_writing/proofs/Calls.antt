@@ -7,10 +7,10 @@ use Prim.Native.Nat.{ℕ, _+_, _<_, _≤_}
 use native.Mathlib.Omega.{arith}
 use borrow.Author.Tests.{le-leb, lt-leb}
 use lib.ListN.{length, take, drop, length-append}
-use Rattle.first_bytes.specs.Bytes.{Bytes}
-use Rattle.writing.specs.Put.{put, next}
-use Rattle.writing.proofs.Lengths.{length-tagged}
-use Rattle.writing.proofs.Put.{wrote}
+use Rattle.msgpack_first_bytes.specs.Bytes.{Bytes}
+use Rattle.msgpack_writing.specs.Put.{put, next}
+use Rattle.msgpack_writing.proofs.Lengths.{length-tagged}
+use Rattle.msgpack_writing.proofs.Put.{wrote}
 use Rattle.frames.specs.declared.Frame.{Frame}
 use Rattle.frames.specs.Limits.{maxSize}
 use Rattle.frames.specs.Held.{all, suits, encoded, present, Item, locate}

@@ -4,10 +4,10 @@ use mathlib.Core.List.{List, [], _++_}
 use Prim.Native.Nat.{ℕ, _+_, _≤_}
 use native.Mathlib.Omega.{arith}
 use lib.ListN.{length, length-append}
-use Rattle.first_bytes.specs.Bytes.{Bytes}
-use Rattle.writing.specs.Forms.{tagged, mapHeader}
-use Rattle.writing.specs.Put.{put, next}
-use Rattle.writing.proofs.Put.{Wrote, wrote, written, join, nothing, length-put}
+use Rattle.msgpack_first_bytes.specs.Bytes.{Bytes}
+use Rattle.msgpack_writing.specs.Forms.{tagged, mapHeader}
+use Rattle.msgpack_writing.specs.Put.{put, next}
+use Rattle.msgpack_writing.proofs.Put.{Wrote, wrote, written, join, nothing, length-put}
 use Rattle.frames.specs.declared.Frame.{Frame}
 use Rattle.frames.specs.Held.{all, Item}
 use Rattle.frames.specs.Keys.{headerItems, bodyItems}

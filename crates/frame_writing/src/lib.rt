@@ -9,8 +9,8 @@ ghost use lib.ListN.{length};
 ghost use Rattle.frames.specs.Held.{encoded};
 ghost use Rattle.frames.specs.Keys.{headerItems, bodyItems};
 ghost use Rattle.frames.specs.Writing.{pairs, mapForm, contents, frameForm, Call, frameWriteCall};
-ghost use Rattle.writing.specs.Forms.{unsignedForm};
-ghost use Rattle.writing.specs.Put.{put, next};
+ghost use Rattle.msgpack_writing.specs.Forms.{unsignedForm};
+ghost use Rattle.msgpack_writing.specs.Put.{put, next};
 ghost use Rattle.frame_items.specs.Content.{heldOf};
 ghost use Rattle.frame_judging.specs.Parts.{itemsBetween, pairBytes, pairOf};
 ghost use Rattle.frame_writing.specs.Answer.{refusal};
@@ -21,8 +21,8 @@ fn put_number(out: &mut [u8], at: usize, key: u8, n: u64) -> usize
     ensures { λ r. ⌜ (r ≡ next at (key ∷ unsignedForm n) (now (out .entry)))
         × (now (out .exit) ≡ put at (key ∷ unsignedForm n) (now (out .entry))) ⌝ }
 {
-    let a = writing::write_tagged(out, at, key, 0, 0);
-    writing::write_unsigned(out, a, n)
+    let a = msgpack_writing::write_tagged(out, at, key, 0, 0);
+    msgpack_writing::write_unsigned(out, a, n)
 }
 
 fn put_view(out: &mut [u8], at: usize, key: u8, v: &[u8]) -> usize
@@ -30,8 +30,8 @@ fn put_view(out: &mut [u8], at: usize, key: u8, v: &[u8]) -> usize
     ensures { λ r. ⌜ (r ≡ next at (key ∷ now (v .entry)) (now (out .entry)))
         × (now (out .exit) ≡ put at (key ∷ now (v .entry)) (now (out .entry))) ⌝ }
 {
-    let a = writing::write_tagged(out, at, key, 0, 0);
-    writing::write_bytes(out, a, v)
+    let a = msgpack_writing::write_tagged(out, at, key, 0, 0);
+    msgpack_writing::write_bytes(out, a, v)
 }
 
 // A known key with what it holds; nothing where it is absent.
@@ -80,7 +80,7 @@ fn put_map(
     ensures { λ r. ⌜ (r ≡ next at (mapForm (pairs (itemsBetween from to frame (now (bytes .entry))))) (now (out .entry)))
         × (now (out .exit) ≡ put at (mapForm (pairs (itemsBetween from to frame (now (bytes .entry))))) (now (out .entry))) ⌝ }
 {
-    let a = headers::write_map_header(out, at, count);
+    let a = msgpack_headers::write_map_header(out, at, count);
     put_pairs(out, a, frame, bytes, from, to)
 }
 
@@ -99,7 +99,7 @@ fn put_frame(
     ensures { λ r. ⌜ (r ≡ next 0 (frameForm (contents (headerItems frame) (bodyItems frame (now (bytes .entry))))) (now (out .entry)))
         × (now (out .exit) ≡ put 0 (frameForm (contents (headerItems frame) (bodyItems frame (now (bytes .entry))))) (now (out .entry))) ⌝ }
 {
-    let a = writing::write_tagged(out, 0, 0xce, size as u64, 4);
+    let a = msgpack_writing::write_tagged(out, 0, 0xce, size as u64, 4);
     let b = put_map(out, a, frame, bytes, 0, 3, header);
     put_map(out, b, frame, bytes, 3, 17, body)
 }

@@ -4,7 +4,7 @@ use native.Mathlib.Omega.{arith}
 use mathlib.Core.List.{List, [], _∷_}
 use mathlib.Core.Option.{Option, none, some}
 use lib.ListN.{length}
-use Rattle.first_bytes.specs.Bytes.{Bytes}
+use Rattle.msgpack_first_bytes.specs.Bytes.{Bytes}
 use Rattle.frames.specs.Held.{Item, encoded}
 use Rattle.frames.specs.Writing.{pairs, onto}
 

@@ -4,7 +4,7 @@ use mathlib.Core.Bool.{Bool, _&&_}
 use mathlib.Core.List.{List, [], _∷_}
 use mathlib.Core.Option.{Option, none, some}
 use lib.Dec.{leb, eqb}
-use Rattle.first_bytes.specs.Bytes.{pick}
+use Rattle.msgpack_first_bytes.specs.Bytes.{pick}
 
 pub record Code : Type 0 where
   pub code : ℕ

@@ -4,14 +4,14 @@ use mathlib.Core.Bool.{Bool, true, false}
 use mathlib.Core.List.{List, [], _∷_, _++_, map}
 use mathlib.Core.Path.{_≡_, refl}
 use lib.ListN.{take, drop, length}
-use Rattle.first_bytes.specs.Bytes.{Bytes}
-use Rattle.first_bytes.specs.FirstByte.{formOf, sameKind}
-use Rattle.values.specs.Number.{number as sum}
-use Rattle.values.specs.Value.{value, one, container, tooDeep, byForm, items, sized, payload}
-use Rattle.values.specs.Pieces.{joined}
-use Rattle.scalars.specs.Integer.{dueIn, due, naturalOf, unsignedBy, unsigned}
-use Rattle.scalars.specs.Header.{counted, header}
-use Rattle.writing.specs.Forms.{bigEndian, unsignedForm, mapHeader}
+use Rattle.msgpack_first_bytes.specs.Bytes.{Bytes}
+use Rattle.msgpack_first_bytes.specs.FirstByte.{formOf, sameKind}
+use Rattle.msgpack_values.specs.Number.{number as sum}
+use Rattle.msgpack_values.specs.Value.{value, one, container, tooDeep, byForm, items, sized, payload}
+use Rattle.msgpack_values.specs.Pieces.{joined}
+use Rattle.msgpack_scalars.specs.Integer.{dueIn, due, naturalOf, unsignedBy, unsigned}
+use Rattle.msgpack_scalars.specs.Header.{counted, header}
+use Rattle.msgpack_writing.specs.Forms.{bigEndian, unsignedForm, mapHeader}
 use Rattle.frames.specs.declared.OptionalNumber.{OptionalNumber}
 use Rattle.frames.specs.declared.Frame.{Frame}
 use Rattle.frames.specs.Held.{all, view, natural, numberIn, opened, suits, numbered, heldIn, heldAt, numberHeld, placeHeld, encoded, present, locate}

@@ -5,17 +5,17 @@ use mathlib.Core.List.{List, [], _∷_}
 use mathlib.Core.Option.{Option, none, some}
 use lib.Dec.{leb, eqb}
 use lib.ListN.{length, take, drop}
-use Rattle.first_bytes.specs.Bytes.{Bytes, pick}
-use Rattle.first_bytes.specs.declared.Form.{Form}
-use Rattle.scalars.specs.Start.{stringBy, arrayBy}
-use Rattle.scalars.specs.Integer.{unsigned}
-use Rattle.scalars.specs.Header.{header}
-use Rattle.scalars.specs.declared.Start.{Start}
-use Rattle.scalars.specs.declared.Natural.{Natural}
-use Rattle.scalars.specs.declared.Natural.the-variants.{Is, Cut, Other}
-use Rattle.scalars.specs.declared.Header.{Header}
-use Rattle.scalars.specs.declared.Header.the-variants.{Is as Opens, Other as Elsewhere}
-use Rattle.writing.specs.Forms.{unsignedForm}
+use Rattle.msgpack_first_bytes.specs.Bytes.{Bytes, pick}
+use Rattle.msgpack_first_bytes.specs.declared.Form.{Form}
+use Rattle.msgpack_scalars.specs.Start.{stringBy, arrayBy}
+use Rattle.msgpack_scalars.specs.Integer.{unsigned}
+use Rattle.msgpack_scalars.specs.Header.{header}
+use Rattle.msgpack_scalars.specs.declared.Start.{Start}
+use Rattle.msgpack_scalars.specs.declared.Natural.{Natural}
+use Rattle.msgpack_scalars.specs.declared.Natural.the-variants.{Is, Cut, Other}
+use Rattle.msgpack_scalars.specs.declared.Header.{Header}
+use Rattle.msgpack_scalars.specs.declared.Header.the-variants.{Is as Opens, Other as Elsewhere}
+use Rattle.msgpack_writing.specs.Forms.{unsignedForm}
 use Rattle.frames.specs.declared.OptionalNumber.{OptionalNumber}
 use Rattle.frames.specs.declared.Place.{Place}
 use Rattle.frames.specs.declared.Rule.{Rule}

@@ -3,7 +3,7 @@ use Prim.Native.Nat.{ℕ}
 use mathlib.Core.Bool.{Bool, true, false}
 use mathlib.Core.List.{List, [], _∷_}
 use mathlib.Core.Option.{Option, none, some}
-use Rattle.first_bytes.specs.Bytes.{Bytes}
+use Rattle.msgpack_first_bytes.specs.Bytes.{Bytes}
 use Rattle.frames.specs.declared.OptionalNumber.{OptionalNumber}
 use Rattle.frames.specs.declared.Place.{Place}
 use Rattle.frames.specs.declared.Frame.{Frame}

@@ -3,12 +3,12 @@ use Prim.Native.Nat.{ℕ}
 use mathlib.Core.List.{List, [], _∷_, _++_, map}
 use mathlib.Core.Path.{_≡_, refl}
 use lib.ListN.{replicate}
-use Rattle.first_bytes.specs.Bytes.{Bytes}
-use Rattle.first_bytes.specs.FirstByte.{formOf, sameKind}
-use Rattle.values.specs.Number.{number}
-use Rattle.values.specs.Value.{value, one, container, tooDeep, byForm, items, sized, payload}
-use Rattle.scalars.specs.Integer.{dueIn, due, naturalOf, unsignedBy, unsigned, twosComplement, signedOf, signedBy, signed, adding, integer}
-use Rattle.meanings.specs.Meaning.{ofInteger, ofFloat32, ofFloat64, scalarMeaning, meaning, aloneBy, alone}
+use Rattle.msgpack_first_bytes.specs.Bytes.{Bytes}
+use Rattle.msgpack_first_bytes.specs.FirstByte.{formOf, sameKind}
+use Rattle.msgpack_values.specs.Number.{number}
+use Rattle.msgpack_values.specs.Value.{value, one, container, tooDeep, byForm, items, sized, payload}
+use Rattle.msgpack_scalars.specs.Integer.{dueIn, due, naturalOf, unsignedBy, unsigned, twosComplement, signedOf, signedBy, signed, adding, integer}
+use Rattle.msgpack_meanings.specs.Meaning.{ofInteger, ofFloat32, ofFloat64, scalarMeaning, meaning, aloneBy, alone}
 use Rattle.laksubinat.specs.declared.ValueAnswer.{ValueAnswer}
 use Rattle.laksubinat.specs.Shown.{held, placed, bit, integerShown, meaningShown, shown}
 

@@ -1,11 +1,11 @@
 -- What C sees of the answers: a value's meaning as numbers, and a written frame as the other calls' answers.
 use Prim.Native.Nat.{ℕ, _-_}
 use mathlib.Core.Bool.{Bool, true, false}
-use Rattle.scalars.specs.declared.Int.{Int}
-use Rattle.scalars.specs.declared.Int.the-variants.{FromZero, BelowZero}
-use Rattle.meanings.specs.declared.Alone.{Alone}
-use Rattle.meanings.specs.declared.Meaning.{Meaning}
-use Rattle.meanings.specs.declared.Meaning.the-variants.{Absent, Nil, Boolean, Integer, Float32, Float64, String, Bin, Ext, Array, Map}
+use Rattle.msgpack_scalars.specs.declared.Int.{Int}
+use Rattle.msgpack_scalars.specs.declared.Int.the-variants.{FromZero, BelowZero}
+use Rattle.msgpack_meanings.specs.declared.Alone.{Alone}
+use Rattle.msgpack_meanings.specs.declared.Meaning.{Meaning}
+use Rattle.msgpack_meanings.specs.declared.Meaning.the-variants.{Absent, Nil, Boolean, Integer, Float32, Float64, String, Bin, Ext, Array, Map}
 use Rattle.frames.specs.Writing.{Call}
 use Rattle.tuples.specs.Call.{Result}
 use Rattle.laksubinat.specs.declared.ValueAnswer.{ValueAnswer}

@@ -2,11 +2,11 @@
 // header is include/laksubinat.h. A slice is a pointer and a length in C; structs go by value.
 use frames::Frame;
 use frames::FrameAnswer;
-use meanings::Meaning;
-use scalars::Int;
+use msgpack_meanings::Meaning;
+use msgpack_scalars::Int;
 use tuples::Answer;
 ghost use mathlib.Core.Path.{_≡_};
-ghost use Rattle.meanings.specs.Meaning.{alone};
+ghost use Rattle.msgpack_meanings.specs.Meaning.{alone};
 ghost use Rattle.frames.specs.Reading.{frameRead};
 ghost use Rattle.frames.specs.Writing.{frameWriteCall};
 ghost use Rattle.tuples.specs.Call.{updateCall, undoCall};
@@ -100,7 +100,7 @@ fn meaning_shown(number: u32, length: usize, meaning: Meaning) -> ValueAnswer
 pub extern "C" fn lak_value_read(bytes: &[u8]) -> ValueAnswer
     ensures { λ r. ⌜ r ≡ shown (alone (now (bytes .entry))) ⌝ }
 {
-    let read = meanings::read_alone(bytes);
+    let read = msgpack_meanings::read_alone(bytes);
     let meaning = read.meaning;
     meaning_shown(read.number, read.length, meaning)
 }

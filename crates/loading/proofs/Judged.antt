@@ -10,18 +10,18 @@ use borrow.Author.Tests.{le-leb, lt-leb, eq-eqb, ne-eqb}
 use lib.Dec.{leb, eqb}
 use lib.ListN.{length, take, drop, length-drop}
 use lib.Seq.{take-all}
-use Rattle.first_bytes.specs.Bytes.{Bytes, pick}
-use Rattle.values.specs.Value.{shift, value, items}
-use Rattle.values.specs.Pieces.{pieces, joined}
-use Rattle.values.specs.declared.Read.{Read}
-use Rattle.values.specs.declared.Read.the-variants.{Whole, Broken}
-use Rattle.values.proofs.Pieces.{pieces-joined}
-use Rattle.scalars.specs.Start.{arrayBy}
-use Rattle.scalars.specs.Header.{header, shiftHeader}
-use Rattle.scalars.specs.declared.Header.{Header}
-use Rattle.scalars.specs.declared.Header.the-variants.{Is, Other}
-use Rattle.writing.specs.Put.{put, next}
-use Rattle.writing.proofs.Put.{Wrote, wrote}
+use Rattle.msgpack_first_bytes.specs.Bytes.{Bytes, pick}
+use Rattle.msgpack_values.specs.Value.{shift, value, items}
+use Rattle.msgpack_values.specs.Pieces.{pieces, joined}
+use Rattle.msgpack_values.specs.declared.Read.{Read}
+use Rattle.msgpack_values.specs.declared.Read.the-variants.{Whole, Broken}
+use Rattle.msgpack_values.proofs.Pieces.{pieces-joined}
+use Rattle.msgpack_scalars.specs.Start.{arrayBy}
+use Rattle.msgpack_scalars.specs.Header.{header, shiftHeader}
+use Rattle.msgpack_scalars.specs.declared.Header.{Header}
+use Rattle.msgpack_scalars.specs.declared.Header.the-variants.{Is, Other}
+use Rattle.msgpack_writing.specs.Put.{put, next}
+use Rattle.msgpack_writing.proofs.Put.{Wrote, wrote}
 use Rattle.tuples.specs.Limits.{maxFields, maxTuple, fieldDepth}
 use Rattle.tuples.specs.Tuple.{Fields, filling, values, fieldsBy, fieldsOf}
 use Rattle.engine.specs.Held.{lengthsOf, over}

@@ -7,13 +7,13 @@ use native.Mathlib.Numerals.{add-one}
 use native.Mathlib.Nat.{add-zero, sub-zero}
 use lib.ListN.{length, take, drop, set, length-drop, take-append-drop}
 use lib.Seq.{take-suc-set, drop-set-lt, drop-drop, length-take-le}
-use Rattle.first_bytes.specs.Bytes.{Bytes}
-use Rattle.values.specs.Value.{shift, items}
-use Rattle.values.specs.Pieces.{pieces}
-use Rattle.values.specs.declared.Read.{Read}
-use Rattle.values.specs.declared.Read.the-variants.{Whole, Broken}
-use Rattle.values.proofs.Laws.{items-whole, items-broken}
-use Rattle.values.proofs.Local.{Good}
+use Rattle.msgpack_first_bytes.specs.Bytes.{Bytes}
+use Rattle.msgpack_values.specs.Value.{shift, items}
+use Rattle.msgpack_values.specs.Pieces.{pieces}
+use Rattle.msgpack_values.specs.declared.Read.{Read}
+use Rattle.msgpack_values.specs.declared.Read.the-variants.{Whole, Broken}
+use Rattle.msgpack_values.proofs.Laws.{items-whole, items-broken}
+use Rattle.msgpack_values.proofs.Local.{Good}
 use Rattle.engine.specs.Held.{lengthsOf, over}
 
 -- i of n values from a place on were whole, `at` is the place after them, and the table l has their lengths; past them it is as it was

@@ -1,15 +1,15 @@
 // A tuple judged, and its fields laid out for the engine.
-use scalars::Header;
-use scalars::Opening;
+use msgpack_scalars::Header;
+use msgpack_scalars::Opening;
+use msgpack_values::Read;
 use tuples::FIELD_DEPTH;
 use tuples::MAX_FIELDS;
 use tuples::MAX_TUPLE;
-use values::Read;
 ghost use mathlib.Core.Path.{_≡_};
 ghost use Prim.Native.Nat.{_≤_};
 ghost use lib.ListN.{length, drop};
-ghost use Rattle.values.specs.Value.{shift, value, items};
-ghost use Rattle.values.specs.Pieces.{pieces};
+ghost use Rattle.msgpack_values.specs.Value.{shift, value, items};
+ghost use Rattle.msgpack_values.specs.Pieces.{pieces};
 ghost use Rattle.tuples.specs.Limits.{fieldDepth, maxTuple};
 ghost use Rattle.tuples.specs.Tuple.{values};
 ghost use Rattle.engine.specs.Held.{lengthsOf, over};
@@ -31,7 +31,7 @@ fn measure(tuple: &[u8], from: usize, n: usize, lengths: &mut [u16]) -> Read
     let mut at = from;
     let mut i: usize = 0;
     while i < n {
-        match values::read_value(tuple, at, FIELD_DEPTH) {
+        match msgpack_values::read_value(tuple, at, FIELD_DEPTH) {
             Read::Broken(place) => {
                 return Read::Broken(place);
             }
@@ -57,7 +57,7 @@ fn lay(tuple: &[u8], at: usize, n: usize, scratch: &mut [u8], lengths: &mut [u16
     if end != tuple.len() {
         return Loaded::Bad;
     }
-    writing::write_bytes(scratch, 0, &tuple[at..]);
+    msgpack_writing::write_bytes(scratch, 0, &tuple[at..]);
     Loaded::Fields(n)
 }
 
@@ -72,7 +72,7 @@ pub fn load(tuple: &[u8], scratch: &mut [u8], lengths: &mut [u16; MAX_FIELDS]) -
     if MAX_TUPLE < tuple.len() {
         return Loaded::Bad;
     }
-    let Header::Is(n, at) = scalars::header_at(tuple, 0, Opening::Array) else {
+    let Header::Is(n, at) = msgpack_scalars::header_at(tuple, 0, Opening::Array) else {
         return Loaded::Bad;
     };
     if MAX_FIELDS < n {

@@ -9,7 +9,7 @@ use borrow.Author.Tests.{le-leb, lt-leb, leb-true}
 use lib.Dec.{leb}
 use lib.ListN.{length, take, drop, set, getD, length-drop, take-append-drop, List·getD-append}
 use lib.Seq.{paste, paste-zero, paste-suc, drop-paste, length-paste, drop-cons, drop-drop, getD-drop, getD-take, length-take-le, set-at, take-suc, drop-at, take-append-le, take-take, take-length, take-nil}
-use Rattle.writing.specs.Put.{put}
+use Rattle.msgpack_writing.specs.Put.{put}
 use Rattle.moves.specs.Splice.{fits, replaced}
 
 -- ---- a turn of each loop: what it reads has not been written yet

@@ -4,7 +4,7 @@ use mathlib.Core.Bool.{Bool, _&&_}
 use mathlib.Core.List.{List, _++_}
 use lib.Dec.{leb}
 use lib.ListN.{length, take, drop}
-use Rattle.first_bytes.specs.Bytes.{pick}
+use Rattle.msgpack_first_bytes.specs.Bytes.{pick}
 
 -- whether they can, in a buffer of `room`, for a piece of `new`
 unfoldable pub fits : ℕ → ℕ → ℕ → ℕ → ℕ → Bool

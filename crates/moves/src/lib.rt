@@ -3,7 +3,7 @@ ghost use mathlib.Core.Path.{_≡_};
 ghost use Prim.Native.Nat.{_+_, _≤_};
 ghost use lib.ListN.{length, drop};
 ghost use lib.Seq.{paste};
-ghost use Rattle.writing.specs.Put.{put};
+ghost use Rattle.msgpack_writing.specs.Put.{put};
 ghost use Rattle.moves.specs.Splice.{fits, replaced};
 
 // The tests subtract, since a sum could wrap.
@@ -74,7 +74,7 @@ pub fn splice_bytes(s: &mut [u8], total: usize, at: usize, gone: usize, piece: &
     }
     let rest = at + gone;
     move_bytes(s, rest, at + piece.len(), total - rest);
-    writing::write_bytes(s, at, piece);
+    msgpack_writing::write_bytes(s, at, piece);
     true
 }
 

@@ -1,9 +1,9 @@
 // The numbers of an operation, each at a place of the bytes.
+use msgpack_scalars::Int;
+use msgpack_scalars::Integer;
 use parts::Field;
 use parts::Natural;
 use parts::Signed;
-use scalars::Int;
-use scalars::Integer;
 ghost use mathlib.Core.Path.{_≡_};
 ghost use lib.ListN.{drop};
 ghost use Rattle.tuples.specs.Decoding.{less, anyInteger, atLeast, position};
@@ -36,7 +36,7 @@ pub fn any_integer(s: &[u8], at: usize) -> Signed
     if b < 0x80 {
         return Signed::Is(Int::FromZero(b as u64), at + 1);
     }
-    match scalars::integer_at(s, at) {
+    match msgpack_scalars::integer_at(s, at) {
         Integer::Is(z, end) => Signed::Is(z, end),
         Integer::Cut => Signed::Bad,
         Integer::Other => Signed::Bad,

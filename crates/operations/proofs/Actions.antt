@@ -3,8 +3,8 @@ use mathlib.Core.Path.{_≡_, refl, subst, _∙_}
 use Prim.Native.Nat.{ℕ, _≤_}
 use borrow.Author.Tests.{ne-eqb}
 use lib.ListN.{length, drop}
-use Rattle.first_bytes.specs.Bytes.{Bytes}
-use Rattle.scalars.specs.declared.Int.{Int}
+use Rattle.msgpack_first_bytes.specs.Bytes.{Bytes}
+use Rattle.msgpack_scalars.specs.declared.Int.{Int}
 use Rattle.tuples.specs.Decoding.{fails, gets, Decoder, onGot, then, made, nothing, atLeast, position, string}
 use Rattle.tuples.specs.Operation.{splice, three, five, actionOf}
 use Rattle.tuples.specs.Operation as Law

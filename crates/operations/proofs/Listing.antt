@@ -10,11 +10,11 @@ use borrow.Author.Tests.{leb-true, le-leb, lt-leb}
 use lib.Dec.{leb}
 use lib.ListN.{length, drop, length-drop, drop-of-length-le}
 use lib.Seq.{drop-cons}
-use Rattle.first_bytes.specs.Bytes.{Bytes, pick}
-use Rattle.scalars.specs.Start.{arrayBy}
-use Rattle.scalars.specs.Header.{header, shiftHeader}
-use Rattle.writing.proofs.Choice.{either}
-use Rattle.scalars.specs.declared.Int.{Int}
+use Rattle.msgpack_first_bytes.specs.Bytes.{Bytes, pick}
+use Rattle.msgpack_scalars.specs.Start.{arrayBy}
+use Rattle.msgpack_scalars.specs.Header.{header, shiftHeader}
+use Rattle.msgpack_writing.proofs.Choice.{either}
+use Rattle.msgpack_scalars.specs.declared.Int.{Int}
 use Rattle.tuples.specs.Limits.{maxOperations, maxList}
 use Rattle.tuples.specs.Decoding.{Got, fails, gets, count}
 use Rattle.tuples.specs.Operation.{Operation, operation, before, andMore, operations, listBy, operationsOf}

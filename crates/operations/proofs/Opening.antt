@@ -3,8 +3,8 @@ use mathlib.Core.Path.{_≡_, refl, sym, subst, ap, _∙_}
 use Prim.Native.Nat.{ℕ}
 use native.Mathlib.Omega.{arith}
 use lib.ListN.{drop}
-use Rattle.first_bytes.specs.Bytes.{Bytes}
-use Rattle.scalars.specs.declared.Int.{Int}
+use Rattle.msgpack_first_bytes.specs.Bytes.{Bytes}
+use Rattle.msgpack_scalars.specs.declared.Int.{Int}
 use Rattle.tuples.specs.Decoding.{Got, fails, gets, Decoder, onGot, then, made, anyInteger, count, mark, less}
 use Rattle.tuples.specs.Operation.{Operation, actionOf, operation}
 use Rattle.tuples.specs.Operation as Law

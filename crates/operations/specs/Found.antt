@@ -2,8 +2,8 @@
 use Prim.Native.Nat.{ℕ, _≤_}
 use mathlib.Core.Path.{_≡_}
 use lib.ListN.{length, drop}
-use Rattle.first_bytes.specs.Bytes.{Bytes}
-use Rattle.scalars.specs.declared.Int.{Int}
+use Rattle.msgpack_first_bytes.specs.Bytes.{Bytes}
+use Rattle.msgpack_scalars.specs.declared.Int.{Int}
 use Rattle.tuples.specs.Decoding.{Got, fails, gets, Decoder, then, made, anyInteger, count, mark}
 use Rattle.tuples.specs.Operation.{plus, minus, and, xor, or, assign, insert, remove, splice}
 use Rattle.tuples.specs.Operation as Law

@@ -1,9 +1,9 @@
 // The operations of a list: how one begins, what it does, and the list judged as a whole: its front,
 // and whether the operations fill it.
+use msgpack_scalars::Int;
 use parts::Natural;
 use parts::Signed;
 use parts::Span;
-use scalars::Int;
 ghost use mathlib.Core.Path.{_≡_};
 ghost use lib.ListN.{drop};
 ghost use Rattle.tuples.specs.Operation.{three, five, actionOf, operation, operations};

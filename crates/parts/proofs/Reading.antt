@@ -6,27 +6,27 @@ use native.Mathlib.Omega.{arith}
 use borrow.Author.Tests.{le-leb, lt-leb, eq-eqb, ne-eqb}
 use lib.ListN.{length, drop, getD, length-drop}
 use lib.Seq.{drop-drop, drop-cons}
-use Rattle.first_bytes.specs.Bytes.{Bytes}
-use Rattle.first_bytes.specs.FirstByte.{formOf}
-use Rattle.first_bytes.specs.declared.Kind.{Kind}
-use Rattle.first_bytes.specs.declared.Kind.the-variants.{Unsigned, Signed}
-use Rattle.first_bytes.specs.declared.Form.{Form}
-use Rattle.values.specs.Value.{shift, value}
-use Rattle.values.specs.declared.Read.{Read}
-use Rattle.values.specs.declared.Read.the-variants.{Whole, Broken}
-use Rattle.values.proofs.Local.{value-good, value-pos}
-use Rattle.scalars.specs.Start.{scalarOf, stringBy, arrayBy}
-use Rattle.scalars.specs.Integer.{dueIn, due, unsignedBy, unsigned, signedBy, signed, adding, integer, shiftInteger}
-use Rattle.scalars.specs.Header.{counted, header, shiftHeader}
-use Rattle.scalars.specs.declared.Start.{Start}
-use Rattle.scalars.specs.declared.Start.the-variants.{Here, Elsewhere}
-use Rattle.scalars.specs.declared.Due.{Due}
-use Rattle.scalars.specs.declared.Due.the-variants.{More, Cut as CutDue, Other as OtherDue}
-use Rattle.scalars.specs.declared.Integer.{Integer}
-use Rattle.scalars.specs.declared.Integer.the-variants.{Is as IsInt, Cut as CutInt, Other as OtherInt}
-use Rattle.scalars.specs.declared.Header.{Header}
-use Rattle.scalars.specs.declared.Header.the-variants.{Is as IsHeader, Other as OtherHeader}
-use Rattle.writing.proofs.Choice.{by-leb}
+use Rattle.msgpack_first_bytes.specs.Bytes.{Bytes}
+use Rattle.msgpack_first_bytes.specs.FirstByte.{formOf}
+use Rattle.msgpack_first_bytes.specs.declared.Kind.{Kind}
+use Rattle.msgpack_first_bytes.specs.declared.Kind.the-variants.{Unsigned, Signed}
+use Rattle.msgpack_first_bytes.specs.declared.Form.{Form}
+use Rattle.msgpack_values.specs.Value.{shift, value}
+use Rattle.msgpack_values.specs.declared.Read.{Read}
+use Rattle.msgpack_values.specs.declared.Read.the-variants.{Whole, Broken}
+use Rattle.msgpack_values.proofs.Local.{value-good, value-pos}
+use Rattle.msgpack_scalars.specs.Start.{scalarOf, stringBy, arrayBy}
+use Rattle.msgpack_scalars.specs.Integer.{dueIn, due, unsignedBy, unsigned, signedBy, signed, adding, integer, shiftInteger}
+use Rattle.msgpack_scalars.specs.Header.{counted, header, shiftHeader}
+use Rattle.msgpack_scalars.specs.declared.Start.{Start}
+use Rattle.msgpack_scalars.specs.declared.Start.the-variants.{Here, Elsewhere}
+use Rattle.msgpack_scalars.specs.declared.Due.{Due}
+use Rattle.msgpack_scalars.specs.declared.Due.the-variants.{More, Cut as CutDue, Other as OtherDue}
+use Rattle.msgpack_scalars.specs.declared.Integer.{Integer}
+use Rattle.msgpack_scalars.specs.declared.Integer.the-variants.{Is as IsInt, Cut as CutInt, Other as OtherInt}
+use Rattle.msgpack_scalars.specs.declared.Header.{Header}
+use Rattle.msgpack_scalars.specs.declared.Header.the-variants.{Is as IsHeader, Other as OtherHeader}
+use Rattle.msgpack_writing.proofs.Choice.{by-leb}
 use Rattle.tuples.specs.Decoding.{fails, gets, valueFrom, anyValue, integerFrom, anyInteger, stringFrom, string, countFrom, count, mark}
 use Rattle.parts.specs.Part.{SignedAt, NaturalAt, SpanAt}
 use Rattle.parts.specs.declared.Signed.{Signed as SignedPart}

@@ -4,9 +4,9 @@ use Prim.Native.Nat.{ℕ, _-_, _<_, _≤_}
 use native.Mathlib.Omega.{arith}
 use borrow.Author.Tests.{le-leb, lt-leb}
 use lib.ListN.{drop}
-use Rattle.first_bytes.specs.Bytes.{Bytes}
-use Rattle.scalars.specs.declared.Int.{Int}
-use Rattle.scalars.specs.declared.Int.the-variants.{FromZero, BelowZero}
+use Rattle.msgpack_first_bytes.specs.Bytes.{Bytes}
+use Rattle.msgpack_scalars.specs.declared.Int.{Int}
+use Rattle.msgpack_scalars.specs.declared.Int.the-variants.{FromZero, BelowZero}
 use Rattle.tuples.specs.Decoding.{fails, gets, Decoder, onGot, then, anyInteger, less, floor, atLeast, position}
 use Rattle.parts.specs.Part.{fieldBy, SignedAt, naturalIn, NaturalAt}
 use Rattle.parts.specs.declared.Field.{Field}

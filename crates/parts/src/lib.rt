@@ -1,8 +1,8 @@
 // The parts of which an operation is read, each at a place of the bytes; its numbers are read above.
-use scalars::Header;
-use scalars::Int;
-use scalars::Opening;
-use values::Read;
+use msgpack_scalars::Header;
+use msgpack_scalars::Int;
+use msgpack_scalars::Opening;
+use msgpack_values::Read;
 ghost use mathlib.Core.Path.{_≡_};
 ghost use lib.ListN.{drop};
 ghost use Rattle.tuples.specs.Decoding.{anyValue, string, count, mark};
@@ -36,7 +36,7 @@ pub enum Span {
 pub fn any_value(s: &[u8], at: usize) -> Span
     ensures { λ r. ⌜ SpanAt (now (s .entry)) r (anyValue (drop at (now (s .entry)))) ⌝ }
 {
-    match values::read_value(s, at, tuples::FIELD_DEPTH) {
+    match msgpack_values::read_value(s, at, tuples::FIELD_DEPTH) {
         Read::Whole(end) => Span::Is(at, end),
         Read::Broken(_) => Span::Bad,
     }
@@ -46,7 +46,7 @@ pub fn any_value(s: &[u8], at: usize) -> Span
 pub fn string_at(s: &[u8], at: usize) -> Span
     ensures { λ r. ⌜ SpanAt (now (s .entry)) r (string (drop at (now (s .entry)))) ⌝ }
 {
-    let Header::Is(n, start) = scalars::header_at(s, at, Opening::String) else {
+    let Header::Is(n, start) = msgpack_scalars::header_at(s, at, Opening::String) else {
         return Span::Bad;
     };
     if s.len() - start < n {
@@ -67,7 +67,7 @@ pub fn count_at(s: &[u8], at: usize) -> Natural
     if b / 16 == 9 {
         return Natural::Is((b - 0x90) as u64, at + 1);
     }
-    match scalars::header_at(s, at, Opening::Array) {
+    match msgpack_scalars::header_at(s, at, Opening::Array) {
         Header::Is(n, start) => Natural::Is(n as u64, start),
         Header::Other => Natural::Bad,
     }

@@ -10,11 +10,11 @@ use native.Mathlib.Omega.{arith}
 use borrow.Author.Tests.{lt-ltb, le-ltb, le-leb, lt-leb, leb-true, leb-false, eqb-true}
 use lib.Dec.{leb, eqb}
 use lib.ListN.{length, getD}
-use Rattle.first_bytes.specs.Bytes.{Bytes, pick}
-use Rattle.scalars.specs.declared.Int.{Int}
-use Rattle.scalars.specs.declared.Int.the-variants.{FromZero, BelowZero}
-use Rattle.writing.proofs.Choice.{by-leb, by-ltb, either}
-use Rattle.values.specs.Pieces.{joined}
+use Rattle.msgpack_first_bytes.specs.Bytes.{Bytes, pick}
+use Rattle.msgpack_scalars.specs.declared.Int.{Int}
+use Rattle.msgpack_scalars.specs.declared.Int.the-variants.{FromZero, BelowZero}
+use Rattle.msgpack_writing.proofs.Choice.{by-leb, by-ltb, either}
+use Rattle.msgpack_values.specs.Pieces.{joined}
 use Rattle.tuples.specs.Limits.{maxFields, maxTuple}
 use Rattle.tuples.specs.Tuple.{Fields}
 use Rattle.tuples.specs.Decoding.{Got, fails, gets, Decoder, less}

@@ -6,7 +6,7 @@ use mathlib.Core.Option.{Option}
 use lib.Dec.{leb, ltb, eqb}
 use lib.ListN.{length}
 use Rattle.tuples.specs.Tuple.{Fields}
-use Rattle.first_bytes.specs.Bytes.{Bytes, pick}
+use Rattle.msgpack_first_bytes.specs.Bytes.{Bytes, pick}
 use Rattle.tuples.specs.Edit.{Edit, refuse, put, add, cut, Step, stop, perform}
 use Rattle.tuples.specs.declared.Refusal.the-variants.{NoField}
 use Rattle.engine.specs.Held.{endOf, edit}

@@ -7,7 +7,7 @@ ghost use mathlib.Core.Path.{_≡_};
 ghost use mathlib.Core.List.{[], _∷_, _++_};
 ghost use mathlib.Core.Option.{some};
 ghost use Prim.Native.Nat.{min};
-ghost use Rattle.read_back.specs.Claims.{stringForm};
+ghost use Rattle.msgpack_read_back.specs.Claims.{stringForm};
 ghost use Rattle.tuples.specs.Operation.{splice};
 ghost use Rattle.tuples.specs.Edit.{put, editAt};
 ghost use Rattle.parts.specs.Part.{part};
@@ -40,7 +40,7 @@ fn string_fits(front: &[u8], middle: &[u8], back: &[u8], room: usize) -> bool
     if MAX_TUPLE < length {
         return false;
     }
-    let all = headers::string_header_length(length as u32) + length;
+    let all = msgpack_headers::string_header_length(length as u32) + length;
     (all <= MAX_TUPLE) & (all <= room)
 }
 
@@ -52,10 +52,10 @@ fn put_string(front: &[u8], middle: &[u8], back: &[u8], work: &mut [u8]) -> Alte
         return Altered::Refused(Refusal::TooLarge);
     }
     let length = front.len() + (middle.len() + back.len());
-    let at_front = headers::write_string_header(work, 0, length as u32);
-    let at_middle = writing::write_bytes(work, at_front, front);
-    let at_back = writing::write_bytes(work, at_middle, middle);
-    let end = writing::write_bytes(work, at_back, back);
+    let at_front = msgpack_headers::write_string_header(work, 0, length as u32);
+    let at_middle = msgpack_writing::write_bytes(work, at_front, front);
+    let at_back = msgpack_writing::write_bytes(work, at_middle, middle);
+    let end = msgpack_writing::write_bytes(work, at_back, back);
     Altered::Is(end)
 }
 

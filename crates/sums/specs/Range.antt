@@ -2,8 +2,8 @@
 use Prim.Native.Nat.{_^_}
 use lib.Dec.{ltb}
 use lib.IntN.{ℤ, pos, negsuc}
-use Rattle.first_bytes.specs.Bytes.{pick}
-use Rattle.scalars.specs.declared.Int.the-variants.{FromZero, BelowZero}
+use Rattle.msgpack_first_bytes.specs.Bytes.{pick}
+use Rattle.msgpack_scalars.specs.declared.Int.the-variants.{FromZero, BelowZero}
 use Rattle.sums.specs.declared.Sum.{Sum}
 use Rattle.sums.specs.declared.Sum.the-variants.{Is, OutOfRange}
 

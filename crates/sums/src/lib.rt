@@ -1,5 +1,5 @@
 // Sums and differences of integers, where they are in range.
-use scalars::Int;
+use msgpack_scalars::Int;
 ghost use mathlib.Core.Path.{_≡_};
 ghost use Prim.Native.Nat.{_+_};
 ghost use lib.IntN.{pos, negsuc, subℕ, _+ℤ_, _-ℤ_};

@@ -4,7 +4,7 @@ use mathlib.Core.Bool.{Bool, true, false, _&&_}
 use mathlib.Core.Option.{Option, none, some}
 use Prim.Native.Nat.{ℕ}
 use native.Mathlib.Omega.{arith}
-use Rattle.first_bytes.specs.Bytes.{pick}
+use Rattle.msgpack_first_bytes.specs.Bytes.{pick}
 
 -- where `cc` finds two constructors to be equal
 pub impossible : {A : Type 0} → _≡_ {A = ℕ} 0 1 → A

@@ -9,15 +9,15 @@ use borrow.Author.Tests.{le-leb}
 use lib.Dec.{leb, eqb}
 use lib.ListN.{length}
 use lib.Seq.{take-append-seam, drop-append-seam}
-use Rattle.first_bytes.specs.Bytes.{Bytes, pick}
-use Rattle.values.specs.Value.{value}
-use Rattle.values.specs.Pieces.{joined, Single}
-use Rattle.values.specs.declared.Read.{Read}
-use Rattle.values.specs.declared.Read.the-variants.{Whole, Broken}
-use Rattle.scalars.specs.declared.Int.{Int}
-use Rattle.scalars.specs.declared.Int.the-variants.{FromZero}
-use Rattle.writing.specs.Forms.{unsignedForm, stringHeader, arrayHeader}
-use Rattle.read_back.proofs.Back.{integer-back, array-header-back}
+use Rattle.msgpack_first_bytes.specs.Bytes.{Bytes, pick}
+use Rattle.msgpack_values.specs.Value.{value}
+use Rattle.msgpack_values.specs.Pieces.{joined, Single}
+use Rattle.msgpack_values.specs.declared.Read.{Read}
+use Rattle.msgpack_values.specs.declared.Read.the-variants.{Whole, Broken}
+use Rattle.msgpack_scalars.specs.declared.Int.{Int}
+use Rattle.msgpack_scalars.specs.declared.Int.the-variants.{FromZero}
+use Rattle.msgpack_writing.specs.Forms.{unsignedForm, stringHeader, arrayHeader}
+use Rattle.msgpack_read_back.proofs.Back.{integer-back, array-header-back}
 use Rattle.tuples.specs.Limits.{fieldDepth, maxOperations, maxList}
 use Rattle.tuples.specs.Tuple.{plain}
 use Rattle.tuples.specs.Decoding.{Got, fails, gets, Decoder, onGot, then, made, nothing, valueFrom, anyValue, integerFrom, anyInteger, less, floor, atLeast, position, string, countFrom, count, mark}

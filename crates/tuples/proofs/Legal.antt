@@ -7,11 +7,11 @@ use native.Mathlib.Omega.{arith}
 use borrow.Author.Tests.{leb-true, le-leb}
 use lib.Dec.{leb}
 use lib.ListN.{length, length-append}
-use Rattle.first_bytes.specs.Bytes.{Bytes, pick}
-use Rattle.values.specs.Value.{value}
-use Rattle.values.specs.Pieces.{joined, Each}
-use Rattle.writing.specs.Forms.{arrayHeader}
-use Rattle.writing.proofs.Lengths.{array-mono}
+use Rattle.msgpack_first_bytes.specs.Bytes.{Bytes, pick}
+use Rattle.msgpack_values.specs.Value.{value}
+use Rattle.msgpack_values.specs.Pieces.{joined, Each}
+use Rattle.msgpack_writing.specs.Forms.{arrayHeader}
+use Rattle.msgpack_writing.proofs.Lengths.{array-mono}
 use Rattle.tuples.specs.Limits.{maxFields, maxTuple, fieldDepth}
 use Rattle.tuples.specs.Tuple.{Fields, plain}
 use Rattle.tuples.specs.Edit.{stop, next, fits, limited}

@@ -4,7 +4,7 @@ use mathlib.Core.List.{List, [], _∷_}
 use mathlib.Core.Option.{Option, none, some}
 use Prim.Native.Nat.{ℕ, _<_}
 use native.Mathlib.Omega.{arith}
-use Rattle.first_bytes.specs.Bytes.{Bytes}
+use Rattle.msgpack_first_bytes.specs.Bytes.{Bytes}
 use Rattle.tuples.specs.Tuple.{Fields, plain, fieldsOf}
 use Rattle.tuples.specs.Call.{Outcome, refusal, bytes, update, undo, Result, delivered, updateCall, undoCall}
 use Rattle.tuples.specs.Sequence.{Event, change, back, Laid, State, start, plainBy, plainOf, wrote, byCalls, byMemory, entered, taken, takenTop, after, callTop, callOf, listing, undoneOf, final, trace, TopKept, Kept, AllKept, Home}

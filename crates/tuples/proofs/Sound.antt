@@ -10,17 +10,17 @@ use borrow.Author.Tests.{eqb-true, le-ltb}
 use lib.Dec.{eqb}
 use lib.IntN.{ℤ, pos, negsuc, _+ℤ_, _-ℤ_}
 use lib.ListN.{length, getD, length-append}
-use Rattle.first_bytes.specs.Bytes.{Bytes, pick}
-use Rattle.first_bytes.specs.FirstByte.{formOf}
-use Rattle.values.specs.Number.{number}
-use Rattle.values.specs.Value.{value, one, byForm, sized, payload}
-use Rattle.values.specs.Pieces.{Single}
-use Rattle.scalars.specs.declared.Int.{Int}
-use Rattle.scalars.specs.declared.Int.the-variants.{FromZero, BelowZero}
-use Rattle.writing.specs.Forms.{bigEndian, unsignedForm, stringHeader}
-use Rattle.read_back.specs.Claims.{stringForm}
-use Rattle.read_back.proofs.Back.{integer-whole, string-whole}
-use Rattle.writing.proofs.Choice.{by-leb, by-ltb, either}
+use Rattle.msgpack_first_bytes.specs.Bytes.{Bytes, pick}
+use Rattle.msgpack_first_bytes.specs.FirstByte.{formOf}
+use Rattle.msgpack_values.specs.Number.{number}
+use Rattle.msgpack_values.specs.Value.{value, one, byForm, sized, payload}
+use Rattle.msgpack_values.specs.Pieces.{Single}
+use Rattle.msgpack_scalars.specs.declared.Int.{Int}
+use Rattle.msgpack_scalars.specs.declared.Int.the-variants.{FromZero, BelowZero}
+use Rattle.msgpack_writing.specs.Forms.{bigEndian, unsignedForm, stringHeader}
+use Rattle.msgpack_read_back.specs.Claims.{stringForm}
+use Rattle.msgpack_read_back.proofs.Back.{integer-whole, string-whole}
+use Rattle.msgpack_writing.proofs.Choice.{by-leb, by-ltb, either}
 use Rattle.tuples.specs.Limits.{maxTuple, fieldDepth}
 use Rattle.tuples.specs.Tuple.{Fields}
 use Rattle.tuples.specs.Decoding.{Got, fails, gets, Decoder, anyInteger, atLeast, string}

@@ -8,10 +8,10 @@ use native.Mathlib.Omega.{arith}
 use borrow.Author.Tests.{lt-ltb, le-leb}
 use lib.ListN.{length, getD, take, drop, length-append, take-append-drop}
 use lib.Seq.{split-at, length-take-le, take-append-seam, drop-append-add, drop-drop}
-use Rattle.first_bytes.specs.Bytes.{Bytes}
-use Rattle.values.specs.Value.{value}
-use Rattle.values.specs.Pieces.{Single, Each, more}
-use Rattle.writing.specs.Forms.{unsignedForm}
+use Rattle.msgpack_first_bytes.specs.Bytes.{Bytes}
+use Rattle.msgpack_values.specs.Value.{value}
+use Rattle.msgpack_values.specs.Pieces.{Single, Each, more}
+use Rattle.msgpack_writing.specs.Forms.{unsignedForm}
 use Rattle.tuples.specs.Limits.{fieldDepth}
 use Rattle.tuples.specs.Tuple.{Fields}
 use Rattle.tuples.specs.Operation.{assign, insert, remove, Operation, operation}

@@ -11,26 +11,26 @@ use lib.Dec.{leb, eqb}
 use lib.ListN.{length, take, drop, length-drop}
 use lib.Pow.{pow-pos}
 use lib.Seq.{take-length, drop-append-seam}
-use Rattle.first_bytes.specs.Bytes.{Bytes, pick}
-use Rattle.first_bytes.specs.FirstByte.{formOf}
-use Rattle.first_bytes.specs.declared.Form.{Form}
-use Rattle.values.specs.Number.{number}
-use Rattle.values.specs.Value.{value, items}
-use Rattle.values.specs.Pieces.{pieces, joined, Each}
-use Rattle.values.specs.declared.Read.{Read}
-use Rattle.values.specs.declared.Read.the-variants.{Whole, Broken}
-use Rattle.values.proofs.Local.{value-good}
-use Rattle.values.proofs.Pieces.{pieces-joined, items-joined}
-use Rattle.scalars.specs.Header.{counted, header}
-use Rattle.scalars.specs.Start.{arrayBy}
-use Rattle.scalars.specs.declared.Start.{Start}
-use Rattle.scalars.specs.declared.Start.the-variants.{Here, Elsewhere}
-use Rattle.scalars.specs.declared.Header.{Header}
-use Rattle.scalars.specs.declared.Header.the-variants.{Is, Other}
-use Rattle.writing.specs.Forms.{bigEndian, arrayHeader}
-use Rattle.read_back.proofs.Back.{array-header-back}
-use Rattle.writing.proofs.Choice.{by-leb}
-use Rattle.writing.proofs.Lengths.{array-mono}
+use Rattle.msgpack_first_bytes.specs.Bytes.{Bytes, pick}
+use Rattle.msgpack_first_bytes.specs.FirstByte.{formOf}
+use Rattle.msgpack_first_bytes.specs.declared.Form.{Form}
+use Rattle.msgpack_values.specs.Number.{number}
+use Rattle.msgpack_values.specs.Value.{value, items}
+use Rattle.msgpack_values.specs.Pieces.{pieces, joined, Each}
+use Rattle.msgpack_values.specs.declared.Read.{Read}
+use Rattle.msgpack_values.specs.declared.Read.the-variants.{Whole, Broken}
+use Rattle.msgpack_values.proofs.Local.{value-good}
+use Rattle.msgpack_values.proofs.Pieces.{pieces-joined, items-joined}
+use Rattle.msgpack_scalars.specs.Header.{counted, header}
+use Rattle.msgpack_scalars.specs.Start.{arrayBy}
+use Rattle.msgpack_scalars.specs.declared.Start.{Start}
+use Rattle.msgpack_scalars.specs.declared.Start.the-variants.{Here, Elsewhere}
+use Rattle.msgpack_scalars.specs.declared.Header.{Header}
+use Rattle.msgpack_scalars.specs.declared.Header.the-variants.{Is, Other}
+use Rattle.msgpack_writing.specs.Forms.{bigEndian, arrayHeader}
+use Rattle.msgpack_read_back.proofs.Back.{array-header-back}
+use Rattle.msgpack_writing.proofs.Choice.{by-leb}
+use Rattle.msgpack_writing.proofs.Lengths.{array-mono}
 use Rattle.tuples.specs.Limits.{maxFields, maxTuple, fieldDepth}
 use Rattle.tuples.specs.Tuple.{Fields, plain, filling, values, fieldsBy, fieldsOf}
 use Rattle.tuples.proofs.Cases.{impossible, guarded}

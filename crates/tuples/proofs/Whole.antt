@@ -5,12 +5,12 @@ use Prim.Native.Nat.{ℕ, zero, suc, _<_}
 use native.Mathlib.Nat.{not-suc-le-zero, le-of-suc-le-suc}
 use lib.ListN.{length, getD, take, drop}
 use lib.Seq.{take-length, length-take-le}
-use Rattle.first_bytes.specs.Bytes.{Bytes}
-use Rattle.values.specs.Value.{value, items, andThen}
-use Rattle.values.specs.Pieces.{cut, pieces, Single, Each, none, more}
-use Rattle.values.specs.declared.Read.{Read}
-use Rattle.values.specs.declared.Read.the-variants.{Whole, Broken}
-use Rattle.values.proofs.Local.{value-good, value-local, never, shift-whole}
+use Rattle.msgpack_first_bytes.specs.Bytes.{Bytes}
+use Rattle.msgpack_values.specs.Value.{value, items, andThen}
+use Rattle.msgpack_values.specs.Pieces.{cut, pieces, Single, Each, none, more}
+use Rattle.msgpack_values.specs.declared.Read.{Read}
+use Rattle.msgpack_values.specs.declared.Read.the-variants.{Whole, Broken}
+use Rattle.msgpack_values.proofs.Local.{value-good, value-local, never, shift-whole}
 
 module _ (v : Bytes → Read) where
   pub each-append : {s t : List Bytes} → Each v s → Each v t → Each v (s ++ t)

@@ -3,19 +3,19 @@ use Prim.Native.Nat.{ℕ, _+_, _-_}
 use mathlib.Core.List.{[], _∷_}
 use lib.Dec.{leb, eqb}
 use lib.ListN.{length, take, drop}
-use Rattle.first_bytes.specs.Bytes.{Bytes, pick}
-use Rattle.values.specs.Value.{value}
-use Rattle.values.specs.declared.Read.{Read}
-use Rattle.values.specs.declared.Read.the-variants.{Whole, Broken}
-use Rattle.scalars.specs.Integer.{integer}
-use Rattle.scalars.specs.Start.{stringBy, arrayBy}
-use Rattle.scalars.specs.Header.{header}
-use Rattle.scalars.specs.declared.Int.{Int}
-use Rattle.scalars.specs.declared.Int.the-variants.{FromZero, BelowZero}
-use Rattle.scalars.specs.declared.Integer.{Integer}
-use Rattle.scalars.specs.declared.Integer.the-variants.{Is as IsInt, Cut, Other as OtherInt}
-use Rattle.scalars.specs.declared.Header.{Header}
-use Rattle.scalars.specs.declared.Header.the-variants.{Is, Other}
+use Rattle.msgpack_first_bytes.specs.Bytes.{Bytes, pick}
+use Rattle.msgpack_values.specs.Value.{value}
+use Rattle.msgpack_values.specs.declared.Read.{Read}
+use Rattle.msgpack_values.specs.declared.Read.the-variants.{Whole, Broken}
+use Rattle.msgpack_scalars.specs.Integer.{integer}
+use Rattle.msgpack_scalars.specs.Start.{stringBy, arrayBy}
+use Rattle.msgpack_scalars.specs.Header.{header}
+use Rattle.msgpack_scalars.specs.declared.Int.{Int}
+use Rattle.msgpack_scalars.specs.declared.Int.the-variants.{FromZero, BelowZero}
+use Rattle.msgpack_scalars.specs.declared.Integer.{Integer}
+use Rattle.msgpack_scalars.specs.declared.Integer.the-variants.{Is as IsInt, Cut, Other as OtherInt}
+use Rattle.msgpack_scalars.specs.declared.Header.{Header}
+use Rattle.msgpack_scalars.specs.declared.Header.the-variants.{Is, Other}
 use Rattle.tuples.specs.Limits.{fieldDepth}
 
 -- what was asked for is not there; or what was read, and the bytes after it

@@ -7,11 +7,11 @@ use lib.Bits.{bitAnd, bitOr, bitXor}
 use lib.Dec.{leb, ltb, eqb}
 use lib.IntN.{ℤ, pos, negsuc, _+ℤ_, _-ℤ_}
 use lib.ListN.{length, getD, take, drop}
-use Rattle.first_bytes.specs.Bytes.{Bytes, pick}
-use Rattle.scalars.specs.declared.Int.{Int}
-use Rattle.scalars.specs.declared.Int.the-variants.{FromZero, BelowZero}
-use Rattle.writing.specs.Forms.{unsignedForm, negativeForm, stringHeader, arrayHeader}
-use Rattle.read_back.specs.Claims.{stringForm}
+use Rattle.msgpack_first_bytes.specs.Bytes.{Bytes, pick}
+use Rattle.msgpack_scalars.specs.declared.Int.{Int}
+use Rattle.msgpack_scalars.specs.declared.Int.the-variants.{FromZero, BelowZero}
+use Rattle.msgpack_writing.specs.Forms.{unsignedForm, negativeForm, stringHeader, arrayHeader}
+use Rattle.msgpack_read_back.specs.Claims.{stringForm}
 use Rattle.tuples.specs.Limits.{maxFields, maxTuple}
 use Rattle.tuples.specs.Tuple.{Fields, plain}
 use Rattle.tuples.specs.Decoding.{Got, fails, gets, Decoder, anyInteger, atLeast, string}

@@ -4,14 +4,14 @@ use mathlib.Core.Path.{_≡_, refl}
 use mathlib.Core.List.{List, [], _∷_, _++_, map}
 use mathlib.Core.Option.{Option, none, some}
 use lib.ListN.{length, replicate}
-use Rattle.first_bytes.specs.Bytes.{Bytes}
-use Rattle.first_bytes.specs.FirstByte.{formOf, sameKind}
-use Rattle.values.specs.Number.{number}
-use Rattle.values.specs.Value.{payload, sized, items, byForm, one, tooDeep, container, value}
-use Rattle.values.specs.Pieces.{pieces, joined}
-use Rattle.scalars.specs.Integer.{dueIn, due, naturalOf, unsignedBy, unsigned, twosComplement, signedOf, signedBy, signed, adding, integer}
-use Rattle.scalars.specs.Header.{counted, header}
-use Rattle.writing.specs.Forms.{bigEndian, unsignedForm, negativeForm, stringHeader, arrayHeader}
+use Rattle.msgpack_first_bytes.specs.Bytes.{Bytes}
+use Rattle.msgpack_first_bytes.specs.FirstByte.{formOf, sameKind}
+use Rattle.msgpack_values.specs.Number.{number}
+use Rattle.msgpack_values.specs.Value.{payload, sized, items, byForm, one, tooDeep, container, value}
+use Rattle.msgpack_values.specs.Pieces.{pieces, joined}
+use Rattle.msgpack_scalars.specs.Integer.{dueIn, due, naturalOf, unsignedBy, unsigned, twosComplement, signedOf, signedBy, signed, adding, integer}
+use Rattle.msgpack_scalars.specs.Header.{counted, header}
+use Rattle.msgpack_writing.specs.Forms.{bigEndian, unsignedForm, negativeForm, stringHeader, arrayHeader}
 use Rattle.tuples.specs.Tuple.{plain, filling, values, fieldsBy, fieldsOf}
 use Rattle.tuples.specs.Decoding.{onGot, then, made, nothing, valueFrom, anyValue, integerFrom, anyInteger, less, floor, atLeast, position, stringFrom, string, countFrom, count, mark}
 use Rattle.tuples.specs.Operation.{three, five, actionOf, operation, before, andMore, operations, listBy, operationsOf}

@@ -5,8 +5,8 @@ use mathlib.Core.List.{List, [], _∷_}
 use mathlib.Core.Option.{Option, none, some}
 use lib.Dec.{leb, eqb}
 use lib.ListN.{length}
-use Rattle.first_bytes.specs.Bytes.{Bytes, pick}
-use Rattle.scalars.specs.declared.Int.{Int}
+use Rattle.msgpack_first_bytes.specs.Bytes.{Bytes, pick}
+use Rattle.msgpack_scalars.specs.declared.Int.{Int}
 use Rattle.tuples.specs.Limits.{maxOperations, maxList}
 use Rattle.tuples.specs.Decoding.{Got, fails, gets, Decoder, then, made, nothing, anyValue, anyInteger, less, atLeast, position, string, count, mark}
 

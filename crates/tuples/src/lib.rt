@@ -3,7 +3,7 @@
 ghost use mathlib.Core.Path.{_≡_};
 ghost use mathlib.Core.List.{List, map};
 ghost use mathlib.Core.Option.{some};
-ghost use Rattle.first_bytes.specs.Bytes.{Bytes};
+ghost use Rattle.msgpack_first_bytes.specs.Bytes.{Bytes};
 ghost use Rattle.tuples.specs.Tuple.{Fields, fieldsOf};
 ghost use Rattle.tuples.specs.Sequence.{Event, start, byCalls, byMemory, final, trace, AllKept, Home};
 ghost use Rattle.tuples.specs.Examples.{computed, known, rules, first, events, shows};

@@ -7,8 +7,8 @@ use native.Mathlib.Nat.{add-zero, add-suc, suc-add}
 use borrow.Author.Tests.{lt-ltb, le-ltb, le-leb, lt-leb}
 use lib.ListN.{length, take, drop}
 use lib.Seq.{drop-cons}
-use Rattle.first_bytes.specs.Bytes.{Bytes}
-use Rattle.writing.specs.Forms.{unsignedForm}
+use Rattle.msgpack_first_bytes.specs.Bytes.{Bytes}
+use Rattle.msgpack_writing.specs.Forms.{unsignedForm}
 use Rattle.tuples.specs.Limits.{maxFields}
 use Rattle.tuples.specs.Tuple.{Fields}
 use Rattle.tuples.specs.Edit.{operationBytes, restored, inverse}

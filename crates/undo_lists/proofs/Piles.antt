@@ -8,12 +8,12 @@ use borrow.Author.Tests.{le-leb, lt-leb}
 use lib.ListN.{length, take, drop, length-append, drop-of-length-le}
 use lib.Seq.{drop-at, length-take-le}
 use mathlib.Core.Logic.{⊎-elim}
-use Rattle.first_bytes.specs.Bytes.{Bytes}
-use Rattle.values.specs.Pieces.{joined}
-use Rattle.writing.specs.Forms.{arrayHeader, stringHeader, unsignedForm}
-use Rattle.writing.specs.Put.{put, next}
-use Rattle.writing.proofs.Choice.{either}
-use Rattle.writing.proofs.Put.{Wrote, wrote, written, length-put, step}
+use Rattle.msgpack_first_bytes.specs.Bytes.{Bytes}
+use Rattle.msgpack_values.specs.Pieces.{joined}
+use Rattle.msgpack_writing.specs.Forms.{arrayHeader, stringHeader, unsignedForm}
+use Rattle.msgpack_writing.specs.Put.{put, next}
+use Rattle.msgpack_writing.proofs.Choice.{either}
+use Rattle.msgpack_writing.proofs.Put.{Wrote, wrote, written, length-put, step}
 use Rattle.tuples.specs.Edit.{operationBytes}
 use Rattle.undo_lists.specs.Laying.{counted, laid, countedAll, laidAll, Piled}
 

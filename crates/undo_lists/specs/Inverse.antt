@@ -2,8 +2,8 @@
 use Prim.Native.Nat.{ℕ, zero, suc, _+_}
 use mathlib.Core.List.{List, [], _∷_}
 use lib.Dec.{leb, ltb}
-use Rattle.first_bytes.specs.Bytes.{Bytes, pick}
-use Rattle.writing.specs.Forms.{unsignedForm}
+use Rattle.msgpack_first_bytes.specs.Bytes.{Bytes, pick}
+use Rattle.msgpack_writing.specs.Forms.{unsignedForm}
 use Rattle.tuples.specs.Limits.{maxFields}
 use Rattle.tuples.specs.Tuple.{Fields}
 use Rattle.tuples.specs.Edit.{operationBytes, restored}

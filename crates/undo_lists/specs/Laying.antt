@@ -4,9 +4,9 @@ use mathlib.Core.Path.{_≡_}
 use mathlib.Core.List.{List, [], _∷_}
 use lib.Dec.{leb}
 use lib.ListN.{length, drop}
-use Rattle.first_bytes.specs.Bytes.{Bytes, pick}
-use Rattle.values.specs.Pieces.{joined}
-use Rattle.writing.specs.Put.{put}
+use Rattle.msgpack_first_bytes.specs.Bytes.{Bytes, pick}
+use Rattle.msgpack_values.specs.Pieces.{joined}
+use Rattle.msgpack_writing.specs.Put.{put}
 
 -- how many bytes lie there with one more operation: one more than the room where they are too many
 unfoldable pub counted : ℕ → Bytes → ℕ → ℕ

@@ -17,7 +17,7 @@ fn lay_operation(undo: &mut [u8], bytes: usize, mark: u8, f: u64, argument: &[u8
     ensures { λ r. ⌜ (r ≡ counted (length (now (undo .entry))) (operationBytes mark f (now (argument .entry))) bytes)
         × (now (undo .exit) ≡ laid (operationBytes mark f (now (argument .entry))) bytes (now (undo .entry))) ⌝ }
 {
-    let long = 3 + writing::unsigned_length(f) + argument.len();
+    let long = 3 + msgpack_writing::unsigned_length(f) + argument.len();
     if undo.len() < bytes {
         return undo.len() + 1;
     }
@@ -26,9 +26,9 @@ fn lay_operation(undo: &mut [u8], bytes: usize, mark: u8, f: u64, argument: &[u8
         return undo.len() + 1;
     }
     let head = [0x93, 0xa1, mark];
-    let number = writing::write_bytes(undo, room - long, &head);
-    let value = writing::write_unsigned(undo, number, f);
-    writing::write_bytes(undo, value, argument);
+    let number = msgpack_writing::write_bytes(undo, room - long, &head);
+    let value = msgpack_writing::write_unsigned(undo, number, f);
+    msgpack_writing::write_bytes(undo, value, argument);
     bytes + long
 }
 

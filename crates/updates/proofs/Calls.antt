@@ -9,12 +9,12 @@ use native.Mathlib.Omega.{arith}
 use borrow.Author.Tests.{le-leb, lt-leb, leb-false}
 use lib.Dec.{leb}
 use lib.ListN.{length, take, drop}
-use Rattle.first_bytes.specs.Bytes.{Bytes, pick}
-use Rattle.scalars.specs.Start.{arrayBy}
-use Rattle.scalars.specs.Header.{header}
-use Rattle.writing.proofs.Choice.{either}
+use Rattle.msgpack_first_bytes.specs.Bytes.{Bytes, pick}
+use Rattle.msgpack_scalars.specs.Start.{arrayBy}
+use Rattle.msgpack_scalars.specs.Header.{header}
+use Rattle.msgpack_writing.proofs.Choice.{either}
 use Rattle.tuples.specs.Limits.{maxFields, maxTuple, maxOperations}
-use Rattle.writing.specs.Forms.{arrayHeader}
+use Rattle.msgpack_writing.specs.Forms.{arrayHeader}
 use Rattle.tuples.specs.Tuple.{Fields, plain, fieldsBy, fieldsOf}
 use Rattle.tuples.specs.Decoding.{Got, fails, gets}
 use Rattle.tuples.specs.Operation.{Operation, operation, before, andMore, operations, operationsOf}

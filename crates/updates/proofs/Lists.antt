@@ -9,10 +9,10 @@ use borrow.Author.Tests.{le-leb, lt-leb}
 use lib.Dec.{leb}
 use lib.ListN.{length, take, drop, length-drop}
 use lib.Seq.{take-all}
-use Rattle.first_bytes.specs.Bytes.{Bytes}
-use Rattle.values.specs.Pieces.{joined}
-use Rattle.writing.specs.Forms.{arrayHeader}
-use Rattle.writing.proofs.Choice.{either}
+use Rattle.msgpack_first_bytes.specs.Bytes.{Bytes}
+use Rattle.msgpack_values.specs.Pieces.{joined}
+use Rattle.msgpack_writing.specs.Forms.{arrayHeader}
+use Rattle.msgpack_writing.proofs.Choice.{either}
 use Rattle.tuples.specs.Limits.{maxOperations, maxList}
 use Rattle.tuples.specs.Tuple.{plain}
 use Rattle.tuples.specs.Call.{Outcome, refusal, bytes, limitedList, undo, Result, delivered}

@@ -3,7 +3,7 @@ use Prim.Native.Nat.{ℕ, _<_, _≤_}
 use mathlib.Core.Path.{_≡_}
 use mathlib.Core.List.{List}
 use lib.ListN.{length}
-use Rattle.first_bytes.specs.Bytes.{Bytes}
+use Rattle.msgpack_first_bytes.specs.Bytes.{Bytes}
 use Rattle.tuples.specs.Limits.{maxTuple, maxOperations}
 use Rattle.tuples.specs.Tuple.{plain}
 use Rattle.tuples.specs.Call.{refusal, bytes, limitedList, update, undo}

@@ -5,8 +5,8 @@ use mathlib.Core.Bool.{_&&_}
 use mathlib.Core.List.{_++_}
 use lib.Dec.{leb}
 use lib.ListN.{length, drop}
-use Rattle.first_bytes.specs.Bytes.{Bytes, pick}
-use Rattle.writing.specs.Forms.{arrayHeader}
+use Rattle.msgpack_first_bytes.specs.Bytes.{Bytes, pick}
+use Rattle.msgpack_writing.specs.Forms.{arrayHeader}
 use Rattle.tuples.specs.Limits.{maxTuple, maxOperations, maxList}
 use Rattle.tuples.specs.Call.{Outcome, refusal, bytes, undo, updateCall, undoCall}
 use Rattle.tuples.specs.declared.Refusal.the-variants.{LongUndo}

@@ -1,10 +1,10 @@
 // The operations of a list, from the first to the last.
 use engine::Edited;
+use msgpack_scalars::Int;
 use operations::Action;
 use operations::Ended;
 use operations::Opened;
 use planning::Planned;
-use scalars::Int;
 use tuples::MAX_FIELDS;
 use tuples::MAX_TUPLE;
 use tuples::Refusal;

@@ -4,9 +4,9 @@ use mathlib.Core.List.{_++_}
 use Prim.Native.Nat.{_+_}
 use native.Mathlib.Omega.{arith}
 use lib.ListN.{length, length-append}
-use Rattle.writing.specs.Forms.{arrayHeader}
-use Rattle.writing.proofs.Lengths.{array-long}
-use Rattle.writing.proofs.Put.{step, wrote}
+use Rattle.msgpack_writing.specs.Forms.{arrayHeader}
+use Rattle.msgpack_writing.proofs.Lengths.{array-long}
+use Rattle.msgpack_writing.proofs.Put.{step, wrote}
 use Rattle.answers.proofs.Written.{seen-short, seen-written}
 use borrow.Author.Needs.{needs}
 use Rattle.answers.proofs.deliver.Statement.{statement}
@@ -15,26 +15,11 @@ use Rattle.answers.proofs.deliver.Tie as tie
 total : (o : tie.Start) → length (arrayHeader (o .args .count) ++ o .args .values .now) ≡ length (arrayHeader (o .args .count)) + length (o .args .values .now)
 total o = length-append (arrayHeader (o .args .count)) (o .args .values .now)
 
-array-header-length-requires : tie.Need-array-header-length-requires
-array-header-length-requires c κs = search needs
-
 add-length : tie.Need-add-length
 add-length c = let h = array-long (c .before .before .before .args .count) in omega arith
 
-refused-requires : tie.Need-refused-requires
-refused-requires c κs = search needs
-
 returns : tie.Need-returns
 returns c = let a = c .before .before .before .before .before .args in let n = total (c .before .before .before .before .before) in seen-short (arrayHeader (a .count) ++ a .values .now) (a .out .now) (omega arith) (c .refused .ensures)
-
-write-array-header-requires : tie.Need-write-array-header-requires
-write-array-header-requires c κs = search needs
-
-write-bytes-requires : tie.Need-write-bytes-requires
-write-bytes-requires c κs = search needs
-
-same-length : tie.Need-same-length
-same-length c = search needs
 
 returns-2 : tie.Need-returns-2
 returns-2 c =
@@ -52,11 +37,11 @@ pub deliver-spec : {M : Type 1} → statement M
 deliver-spec =
     tie.close
     (tie.spec
-    array-header-length-requires
+    (λ c κs. search needs)
     add-length
-    refused-requires
+    (λ c κs. search needs)
     returns
-    write-array-header-requires
-    write-bytes-requires
-    same-length
+    (λ c κs. search needs)
+    (λ c κs. search needs)
+    (λ c. search needs)
     returns-2)

@@ -3,11 +3,8 @@ use borrow.Author.Needs.{needs}
 use Rattle.answers.proofs.refused.Statement.{statement}
 use Rattle.answers.proofs.refused.Tie as tie
 
-number-of-requires : tie.Need-number-of-requires
-number-of-requires c κs = search needs
-
 returns : tie.Need-returns
 returns c = let a = c .before .args in λ i. record { number = c .number-of .ensures i; operation = a .operation; length = 0 }
 
 pub refused-spec : {M : Type 1} → statement M
-refused-spec = tie.close (tie.spec number-of-requires returns)
+refused-spec = tie.close (tie.spec (λ c κs. search needs) returns)

@@ -1,23 +1,14 @@
 -- Nothing is written where a number has no room, and only there. Assumes nothing.
-use Rattle.read_back.specs.Claims.{integerForm}
+use Rattle.msgpack_read_back.specs.Claims.{integerForm}
 use Rattle.computing.proofs.Numbers as Numbers
 use borrow.Author.Needs.{needs}
 use Rattle.computing.proofs.put_number.Statement.{statement}
 use Rattle.computing.proofs.put_number.Tie as tie
 
-write-number-requires : tie.Need-write-number-requires
-write-number-requires c κs = search needs
-
-same-length : tie.Need-same-length
-same-length c = search needs
-
 returns : tie.Need-returns
 returns c =
     let o = c .before .before .before .before .before .before in
     Numbers.number-none (integerForm (o .args .z)) (o .args .work .now) (Numbers.integer-long (o .args .z) (o .pre)) (c .before .before .before .write-number .ensures) (c .if1 .taken)
-
-same-length-2 : tie.Need-same-length-2
-same-length-2 c = search needs
 
 returns-2 : tie.Need-returns-2
 returns-2 c =
@@ -26,4 +17,4 @@ returns-2 c =
 
 pub put-number-spec : {M : Type 1} → statement M
 put-number-spec =
-    tie.close (tie.spec write-number-requires same-length returns same-length-2 returns-2)
+    tie.close (tie.spec (λ c κs. search needs) (λ c. search needs) returns (λ c. search needs) returns-2)

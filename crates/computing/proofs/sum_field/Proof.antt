@@ -6,28 +6,13 @@ use borrow.Author.Needs.{needs}
 use Rattle.computing.proofs.sum_field.Statement.{statement}
 use Rattle.computing.proofs.sum_field.Tie as tie
 
-any-integer-requires : tie.Need-any-integer-requires
-any-integer-requires c κs = search needs
-
-enum-known-z : tie.Need-enum-known-z
-enum-known-z c = search needs
-
-enum-told : tie.Need-enum-told
-enum-told c = search needs
-
 returns : tie.Need-returns
 returns c =
     let a = c .before .before .before .before .before .args in
     rw (← (Numbers.sum-unsuited (a .minus) (a .v) (a .field .now) (c .before .before .any-integer .ensures) (c .enum-told .given .1))) (refl, refl)
 
-total-requires : tie.Need-total-requires
-total-requires c κs = search needs
-
 put-sum-requires : tie.Need-put-sum-requires
 put-sum-requires c κs = subst SumInRange (sym (c .before .total .ensures)) (Numbers.sum-in-range _)
-
-same-length : tie.Need-same-length
-same-length c = search needs
 
 returns-2 : tie.Need-returns-2
 returns-2 c =
@@ -38,11 +23,11 @@ pub sum-field-spec : {M : Type 1} → statement M
 sum-field-spec =
     tie.close
     (tie.spec
-    any-integer-requires
-    enum-known-z
-    enum-told
+    (λ c κs. search needs)
+    (λ c. search needs)
+    (λ c. search needs)
     returns
-    total-requires
+    (λ c κs. search needs)
     put-sum-requires
-    same-length
+    (λ c. search needs)
     returns-2)

@@ -6,15 +6,6 @@ use borrow.Author.Needs.{needs}
 use Rattle.computing.proofs.through.Statement.{statement}
 use Rattle.computing.proofs.through.Tie as tie
 
-enum-told : tie.Need-enum-told
-enum-told c = search needs
-
-enum-told-2 : tie.Need-enum-told-2
-enum-told-2 c = search needs
-
-enum-told-3 : tie.Need-enum-told-3
-enum-told-3 c = search needs
-
 returns : tie.Need-returns
 returns c =
     let a = c .before .before .args in
@@ -31,4 +22,4 @@ returns-3 c =
     ap (λ (g : Gate). gateOf g (a .n) (a .v)) (sym (c .enum-told3 .given .1))
 
 pub through-spec : {M : Type 1} → statement M
-through-spec = tie.close (tie.spec enum-told enum-told-2 enum-told-3 returns returns-2 returns-3)
+through-spec = tie.close (tie.spec (λ c. search needs) (λ c. search needs) (λ c. search needs) returns returns-2 returns-3)

@@ -1,8 +1,8 @@
 -- One law for each way back. Assumes nothing.
 use mathlib.Core.Path.{_∙_}
 use native.Mathlib.Omega.{arith}
-use Rattle.writing.specs.Forms.{arrayHeader}
-use Rattle.writing.proofs.Lengths.{Long, array-long}
+use Rattle.msgpack_writing.specs.Forms.{arrayHeader}
+use Rattle.msgpack_writing.proofs.Lengths.{Long, array-long}
 use Prim.Native.Nat.{_+_, _-_}
 use Rattle.engine.proofs.Ends.{end-held, end-unheld}
 use Rattle.engine.proofs.Decisions.{out-of-room, unheld, Spans, spans, stop-unheld, stop-past, stop-large, stop-long, stop-room, go-on}
@@ -21,32 +21,11 @@ found c =
 header : (c : tie.After-array-header-length) → (let a = c .before .before .before .before .before .before .before .before .before .before .args in Long 5 (arrayHeader (a .n - a .gone + a .more)))
 header c = let a = c .before .before .before .before .before .before .before .before .before .before .args in array-long (a .n - a .gone + a .more)
 
-stopped-requires : tie.Need-stopped-requires
-stopped-requires c κs = search needs
-
 returns : tie.Need-returns
 returns c = c .stopped .ensures ∙ stop-past _ _ _ _ _ _ _ (omega arith)
 
-stopped-requires-2 : tie.Need-stopped-requires-2
-stopped-requires-2 c κs = search needs
-
 returns-2 : tie.Need-returns-2
 returns-2 c = c .stopped2 .ensures ∙ stop-past _ _ _ _ _ _ _ (omega arith)
-
-end-of-requires : tie.Need-end-of-requires
-end-of-requires c κs = search needs
-
-add-end-after : tie.Need-add-end-after
-add-end-after c = search needs
-
-end-after-requires : tie.Need-end-after-requires
-end-after-requires c κs = search needs
-
-add-end-after-2 : tie.Need-add-end-after-2
-add-end-after-2 c = search needs
-
-end-after-requires-2 : tie.Need-end-after-requires-2
-end-after-requires-2 c κs = search needs
 
 returns-3 : tie.Need-returns-3
 returns-3 c =
@@ -56,9 +35,6 @@ returns-3 c =
 
 returns-4 : tie.Need-returns-4
 returns-4 c = stop-unheld _ _ _ _ _ _ _ (out-of-room _ _ _ (c .before .before .end-after2 .ensures) (c .before .if3 .left) (c .if4 .taken))
-
-sub-fields : tie.Need-sub-fields
-sub-fields c = search needs
 
 add-fields : tie.Need-add-fields
 add-fields c = let s = found (c .before) in omega (arith, s .holding .rows)
@@ -74,12 +50,6 @@ sub-total c = let s = found (c .before .before) in omega arith
 
 add-total : tie.Need-add-total
 add-total c = let s = found (c .before .before) in omega arith
-
-cast-array-header-length : tie.Need-cast-array-header-length
-cast-array-header-length c = search needs
-
-array-header-length-requires : tie.Need-array-header-length-requires
-array-header-length-requires c κs = search needs
 
 sub-if6 : tie.Need-sub-if6
 sub-if6 c = let h = header c in omega arith
@@ -105,25 +75,25 @@ pub decide-spec : {M : Type 1} → statement M
 decide-spec =
     tie.close
     (tie.spec
-    stopped-requires
+    (λ c κs. search needs)
     returns
-    stopped-requires-2
+    (λ c κs. search needs)
     returns-2
-    end-of-requires
-    add-end-after
-    end-after-requires
-    add-end-after-2
-    end-after-requires-2
+    (λ c κs. search needs)
+    (λ c. search needs)
+    (λ c κs. search needs)
+    (λ c. search needs)
+    (λ c κs. search needs)
     returns-3
     returns-4
-    sub-fields
+    (λ c. search needs)
     add-fields
     returns-5
     sub-gone-bytes
     sub-total
     add-total
-    cast-array-header-length
-    array-header-length-requires
+    (λ c. search needs)
+    (λ c κs. search needs)
     sub-if6
     returns-6
     returns-7

@@ -5,7 +5,7 @@ use Prim.Native.Nat.{ℕ, _≤_}
 use native.Mathlib.Omega.{arith}
 use lib.ListN.{length}
 use lib.Seq.{length-take-le}
-use Rattle.first_bytes.specs.Bytes.{Bytes}
+use Rattle.msgpack_first_bytes.specs.Bytes.{Bytes}
 use Rattle.engine.specs.Decision.{rowsOf}
 use Rattle.engine.proofs.Edits.{stopped, edit-done}
 use Rattle.engine.proofs.Decisions.{Means, Going, meaning}
@@ -25,31 +25,13 @@ decision d =
 going : (k : tie.After-known-told2) → (let a = k .before .before .before .before .before .before .before .before .args in Going (a .scratch .now) (a .lengths .now) (a .n) (a .f) (a .gone) (rowsOf (a .more) (a .piece .now)) (a .piece .now) (k .before .bytes .given .0 .0) (k .before .bytes .given .0 .1 .0) (k .before .bytes .given .0 .1 .1 .0))
 going k = rw (k .before .bytes .given .1) at (decision (k .before .before .before))
 
-decide-requires : tie.Need-decide-requires
-decide-requires c κs = search needs
-
-enum-known-refusal : tie.Need-enum-known-refusal
-enum-known-refusal c = search needs
-
-enum-known-bytes : tie.Need-enum-known-bytes
-enum-known-bytes c = search needs
-
-splice-bytes-requires : tie.Need-splice-bytes-requires
-splice-bytes-requires c κs = search needs
-
 cast-t23 : tie.Need-cast-t23
 cast-t23 c = let g = going (c .before .before .before .before) in omega (arith, g .short)
-
-array-share-prefix-one : tie.Need-array-share-prefix-one
-array-share-prefix-one c = search needs
 
 slice-aggregate-splice-lengths : tie.Need-slice-aggregate-splice-lengths
 slice-aggregate-splice-lengths c =
     let o = c .before .before .before .before .before .before .before .before .before .before .before .before .before .before in
     sym (rows (o .args .more) (o .args .piece .now) (o .pre .1))
-
-splice-lengths-requires : tie.Need-splice-lengths-requires
-splice-lengths-requires c κs = search needs
 
 sub-t22 : tie.Need-sub-t22
 sub-t22 c = let g = going (c .before .before .before .before .before .before .before .before .before) in omega (arith, g .replacing .part)
@@ -61,17 +43,8 @@ add-t28 c =
     let e = rows (o .args .more) (o .args .piece .now) (o .pre .1) in
     omega (arith, going k .few)
 
-same-length : tie.Need-same-length
-same-length c = search needs
-
 returns : tie.Need-returns
 returns c = stopped (rw (c .before .refusal .given .1) at (decision (c .before .before .before)))
-
-same-length-2 : tie.Need-same-length-2
-same-length-2 c = search needs
-
-same-length-3 : tie.Need-same-length-3
-same-length-3 c = search needs
 
 returns-2 : tie.Need-returns-2
 returns-2 c =
@@ -87,18 +60,18 @@ pub edit-fields-spec : {M : Type 1} → statement M
 edit-fields-spec =
     tie.close
     (tie.spec
-    decide-requires
-    enum-known-refusal
-    enum-known-bytes
-    splice-bytes-requires
+    (λ c κs. search needs)
+    (λ c. search needs)
+    (λ c. search needs)
+    (λ c κs. search needs)
     cast-t23
-    array-share-prefix-one
+    (λ c. search needs)
     slice-aggregate-splice-lengths
-    splice-lengths-requires
+    (λ c κs. search needs)
     sub-t22
     add-t28
-    same-length
+    (λ c. search needs)
     returns
-    same-length-2
-    same-length-3
+    (λ c. search needs)
+    (λ c. search needs)
     returns-2)

@@ -16,20 +16,11 @@ Inv-loop lengths i start n end₀ j₀ end j = (j ≤ n) × (end ≡ sum (take j
 abbrev μ-loop : tie.MeasureT-loop
 μ-loop lengths i start n end₀ j₀ end j = n - j
 
-add-result : tie.Need-add-result Inv-loop μ-loop
-add-result c = omega arith
-
 returns : tie.Need-returns Inv-loop μ-loop
 returns c = end-not _ _ (λ h. omega (arith, h .few, c .if1 .taken))
 
-add-result-2 : tie.Need-add-result-2 Inv-loop μ-loop
-add-result-2 c = omega arith
-
 returns-2 : tie.Need-returns-2 Inv-loop μ-loop
 returns-2 c = end-not _ _ (λ h. omega (arith, h .rows, c .if2 .taken))
-
-add-result-3 : tie.Need-add-result-3 Inv-loop μ-loop
-add-result-3 c = omega arith
 
 returns-3 : tie.Need-returns-3 Inv-loop μ-loop
 returns-3 c =
@@ -43,23 +34,11 @@ loop-holds c =
     let a = o .args in
     (o .pre .0, end-start (a .lengths .now) (a .i) (o .pre .1) (c .if3 .left), omega (arith, c .if3 .left))
 
-mul-end : tie.Need-mul-end Inv-loop μ-loop
-mul-end c = omega arith
-
-shared-slice-read-end : tie.Need-shared-slice-read-end Inv-loop μ-loop
-shared-slice-read-end c = omega arith
-
 cast-end : tie.Need-cast-end Inv-loop μ-loop
 cast-end c = let b = c .shared-slice-known .given (c .before .before .loop .j) in omega arith
 
 add-end : tie.Need-add-end Inv-loop μ-loop
 add-end c = let b = c .shared-slice-known .given (c .before .before .loop .j) in omega arith
-
-add-j : tie.Need-add-j Inv-loop μ-loop
-add-j c = omega arith
-
-loop-less : tie.Need-loop-less Inv-loop μ-loop
-loop-less c = omega arith
 
 loop-again : tie.Need-loop-again Inv-loop μ-loop
 loop-again c =
@@ -67,9 +46,6 @@ loop-again c =
     let e = sum-next (l .before .before .before .before .args .lengths .now) (l .loop .j) (omega arith) in
     let b = c .shared-slice-known .given (l .loop .j) in
     (omega arith, omega arith, omega arith)
-
-add-result-4 : tie.Need-add-result-4 Inv-loop μ-loop
-add-result-4 c = omega arith
 
 returns-4 : tie.Need-returns-4 Inv-loop μ-loop
 returns-4 c =
@@ -93,20 +69,20 @@ end-after-spec =
     (tie.spec
     Inv-loop
     μ-loop
-    add-result
+    (λ c. omega arith)
     returns
-    add-result-2
+    (λ c. omega arith)
     returns-2
-    add-result-3
+    (λ c. omega arith)
     returns-3
     loop-holds
-    mul-end
-    shared-slice-read-end
+    (λ c. omega arith)
+    (λ c. omega arith)
     cast-end
     add-end
-    add-j
-    loop-less
+    (λ c. omega arith)
+    (λ c. omega arith)
     loop-again
-    add-result-4
+    (λ c. omega arith)
     returns-4
     returns-5)

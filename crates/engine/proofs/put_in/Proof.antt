@@ -8,11 +8,8 @@ use Rattle.engine.proofs.put_in.Tie as tie
 edit-fields-requires : tie.Need-edit-fields-requires
 edit-fields-requires c κs = (record { rows = search needs; few = omega arith; whole = sum-one _ }, omega arith)
 
-same-length : tie.Need-same-length
-same-length c = search needs
-
 returns : tie.Need-returns
 returns c = let e = c .before .before in rw (cut-one (e .before .before .before .before .before .args .piece .now)) at (e .edit-fields .ensures)
 
 pub put-in-spec : {M : Type 1} → statement M
-put-in-spec = tie.close (tie.spec edit-fields-requires same-length returns)
+put-in-spec = tie.close (tie.spec edit-fields-requires (λ c. search needs) returns)

@@ -6,9 +6,6 @@ use borrow.Author.Needs.{needs}
 use Rattle.engine.proofs.stopped.Statement.{statement}
 use Rattle.engine.proofs.stopped.Tie as tie
 
-end-of-requires : tie.Need-end-of-requires
-end-of-requires c κs = search needs
-
 returns : tie.Need-returns
 returns c =
     let e = c .before in
@@ -22,4 +19,4 @@ returns-3 : tie.Need-returns-3
 returns-3 c = unreached-held _ _ _ (c .before .before .end-of .ensures) (c .before .if1 .left) (c .if2 .left)
 
 pub stopped-spec : {M : Type 1} → statement M
-stopped-spec = tie.close (tie.spec end-of-requires returns returns-2 returns-3)
+stopped-spec = tie.close (tie.spec (λ c κs. search needs) returns returns-2 returns-3)

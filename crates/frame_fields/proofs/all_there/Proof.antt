@@ -22,15 +22,6 @@ abbrev μ-loop : tie.MeasureT-loop
 loop-holds : tie.Need-loop-holds Inv-loop μ-loop
 loop-holds c = (omega arith, refl)
 
-mul-place-in : tie.Need-mul-place-in Inv-loop μ-loop
-mul-place-in c = omega arith
-
-shared-slice-read-place-in : tie.Need-shared-slice-read-place-in Inv-loop μ-loop
-shared-slice-read-place-in c = omega arith
-
-place-in-requires : tie.Need-place-in-requires Inv-loop μ-loop
-place-in-requires c κs = search needs
-
 returns : tie.Need-returns Inv-loop μ-loop
 returns c =
     let b = c .before .before in
@@ -39,12 +30,6 @@ returns c =
     sym (all-fails (λ (k : ℕ). placeIn (a .starts .now) (a .lengths .now) k .present) (a .keys .now) (l .i) (b .before .before .loop-test .taken)
     (ap (λ (p : Place). p .present) (sym (b .place-in .ensures)) ∙ not-true _ (c .if1 .taken)))
     ∙ l .inv .1
-
-add-i : tie.Need-add-i Inv-loop μ-loop
-add-i c = omega arith
-
-loop-less : tie.Need-loop-less Inv-loop μ-loop
-loop-less c = omega arith
 
 loop-again : tie.Need-loop-again Inv-loop μ-loop
 loop-again c =
@@ -72,11 +57,11 @@ all-there-spec =
     Inv-loop
     μ-loop
     loop-holds
-    mul-place-in
-    shared-slice-read-place-in
-    place-in-requires
+    (λ c. omega arith)
+    (λ c. omega arith)
+    (λ c κs. search needs)
     returns
-    add-i
-    loop-less
+    (λ c. omega arith)
+    (λ c. omega arith)
     loop-again
     returns-2)

@@ -4,54 +4,6 @@ use Rattle.frames.specs.Keys.{frameAt}
 use Rattle.frame_fields.proofs.frame_of.Statement.{statement}
 use Rattle.frame_fields.proofs.frame_of.Tie as tie
 
-number-in-requires : tie.Need-number-in-requires
-number-in-requires c κs = search needs
-
-number-in-requires-2 : tie.Need-number-in-requires-2
-number-in-requires-2 c κs = search needs
-
-number-in-requires-3 : tie.Need-number-in-requires-3
-number-in-requires-3 c κs = search needs
-
-number-in-requires-4 : tie.Need-number-in-requires-4
-number-in-requires-4 c κs = search needs
-
-number-in-requires-5 : tie.Need-number-in-requires-5
-number-in-requires-5 c κs = search needs
-
-number-in-requires-6 : tie.Need-number-in-requires-6
-number-in-requires-6 c κs = search needs
-
-number-in-requires-7 : tie.Need-number-in-requires-7
-number-in-requires-7 c κs = search needs
-
-number-in-requires-8 : tie.Need-number-in-requires-8
-number-in-requires-8 c κs = search needs
-
-place-in-requires : tie.Need-place-in-requires
-place-in-requires c κs = search needs
-
-place-in-requires-2 : tie.Need-place-in-requires-2
-place-in-requires-2 c κs = search needs
-
-place-in-requires-3 : tie.Need-place-in-requires-3
-place-in-requires-3 c κs = search needs
-
-place-in-requires-4 : tie.Need-place-in-requires-4
-place-in-requires-4 c κs = search needs
-
-place-in-requires-5 : tie.Need-place-in-requires-5
-place-in-requires-5 c κs = search needs
-
-place-in-requires-6 : tie.Need-place-in-requires-6
-place-in-requires-6 c κs = search needs
-
-place-in-requires-7 : tie.Need-place-in-requires-7
-place-in-requires-7 c κs = search needs
-
-place-in-requires-8 : tie.Need-place-in-requires-8
-place-in-requires-8 c κs = search needs
-
 returns : tie.Need-returns
 unfolding frameAt
 returns c =
@@ -80,20 +32,20 @@ pub frame-of-spec : {M : Type 1} → statement M
 frame-of-spec =
     tie.close
     (tie.spec
-    number-in-requires
-    number-in-requires-2
-    number-in-requires-3
-    number-in-requires-4
-    number-in-requires-5
-    number-in-requires-6
-    number-in-requires-7
-    number-in-requires-8
-    place-in-requires
-    place-in-requires-2
-    place-in-requires-3
-    place-in-requires-4
-    place-in-requires-5
-    place-in-requires-6
-    place-in-requires-7
-    place-in-requires-8
+    (λ c κs. search needs)
+    (λ c κs. search needs)
+    (λ c κs. search needs)
+    (λ c κs. search needs)
+    (λ c κs. search needs)
+    (λ c κs. search needs)
+    (λ c κs. search needs)
+    (λ c κs. search needs)
+    (λ c κs. search needs)
+    (λ c κs. search needs)
+    (λ c κs. search needs)
+    (λ c κs. search needs)
+    (λ c κs. search needs)
+    (λ c κs. search needs)
+    (λ c κs. search needs)
+    (λ c κs. search needs)
     returns)

@@ -5,15 +5,6 @@ use Rattle.frame_fields.proofs.Laws.{number-there, number-none}
 use Rattle.frame_fields.proofs.number_in.Statement.{statement}
 use Rattle.frame_fields.proofs.number_in.Tie as tie
 
-place-in-requires : tie.Need-place-in-requires
-place-in-requires c κs = search needs
-
-view-of-requires : tie.Need-view-of-requires
-view-of-requires c κs = search needs
-
-number-of-requires : tie.Need-number-of-requires
-number-of-requires c κs = search needs
-
 returns : tie.Need-returns
 returns c =
     let p = c .before .before .before in
@@ -28,4 +19,4 @@ returns-2 c =
 
 pub number-in-spec : {M : Type 1} → statement M
 number-in-spec =
-    tie.close (tie.spec place-in-requires view-of-requires number-of-requires returns returns-2)
+    tie.close (tie.spec (λ c κs. search needs) (λ c κs. search needs) (λ c κs. search needs) returns returns-2)

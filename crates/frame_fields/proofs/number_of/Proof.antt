@@ -5,18 +5,6 @@ use Rattle.frame_fields.proofs.Laws.{number-is, number-cut, number-othe
 use Rattle.frame_fields.proofs.number_of.Statement.{statement}
 use Rattle.frame_fields.proofs.number_of.Tie as tie
 
-unsigned-at-requires : tie.Need-unsigned-at-requires
-unsigned-at-requires c κs = search needs
-
-enum-known-n : tie.Need-enum-known-n
-enum-known-n c = search needs
-
-enum-told : tie.Need-enum-told
-enum-told c = search needs
-
-enum-told-2 : tie.Need-enum-told-2
-enum-told-2 c = search needs
-
 returns : tie.Need-returns
 returns c = number-is _ _ _ (sym (c .before .n .given .1) ∙ c .before .before .before .unsigned-at .ensures)
 
@@ -29,4 +17,4 @@ returns-3 c = number-other _ (sym (c .enum-told2 .given .1) ∙ c .before .befor
 pub number-of-spec : {M : Type 1} → statement M
 number-of-spec =
     tie.close
-    (tie.spec unsigned-at-requires enum-known-n enum-told enum-told-2 returns returns-2 returns-3)
+    (tie.spec (λ c κs. search needs) (λ c. search needs) (λ c. search needs) (λ c. search needs) returns returns-2 returns-3)

@@ -5,24 +5,6 @@ use borrow.Author.Needs.{needs}
 use Rattle.frame_items.proofs.is_sound.Statement.{statement}
 use Rattle.frame_items.proofs.is_sound.Tie as tie
 
-enum-told : tie.Need-enum-told
-enum-told c = search needs
-
-enum-told-2 : tie.Need-enum-told-2
-enum-told-2 c = search needs
-
-enum-told-3 : tie.Need-enum-told-3
-enum-told-3 c = search needs
-
-enum-known-content : tie.Need-enum-known-content
-enum-known-content c = search needs
-
-view-of-requires : tie.Need-view-of-requires
-view-of-requires c κs = search needs
-
-view-sound-requires : tie.Need-view-sound-requires
-view-sound-requires c κs = search needs
-
 returns : tie.Need-returns
 unfolding heldOf sound
 returns c = rw (c .enum-told .given .1)
@@ -43,12 +25,12 @@ pub is-sound-spec : {M : Type 1} → statement M
 is-sound-spec =
     tie.close
     (tie.spec
-    enum-told
-    enum-told-2
-    enum-told-3
-    enum-known-content
-    view-of-requires
-    view-sound-requires
+    (λ c. search needs)
+    (λ c. search needs)
+    (λ c. search needs)
+    (λ c. search needs)
+    (λ c κs. search needs)
+    (λ c κs. search needs)
     returns
     returns-2
     returns-3

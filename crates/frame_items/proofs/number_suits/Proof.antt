@@ -4,18 +4,6 @@ use borrow.Author.Needs.{needs}
 use Rattle.frame_items.proofs.number_suits.Statement.{statement}
 use Rattle.frame_items.proofs.number_suits.Tie as tie
 
-enum-known-rule : tie.Need-enum-known-rule
-enum-known-rule c = search needs
-
-enum-told : tie.Need-enum-told
-enum-told c = search needs
-
-enum-told-2 : tie.Need-enum-told-2
-enum-told-2 c = search needs
-
-enum-told-3 : tie.Need-enum-told-3
-enum-told-3 c = search needs
-
 returns : tie.Need-returns
 unfolding suits
 returns c = rw (c .before .rule .given .1)
@@ -36,10 +24,10 @@ pub number-suits-spec : {M : Type 1} → statement M
 number-suits-spec =
     tie.close
     (tie.spec
-    enum-known-rule
-    enum-told
-    enum-told-2
-    enum-told-3
+    (λ c. search needs)
+    (λ c. search needs)
+    (λ c. search needs)
+    (λ c. search needs)
     returns
     returns-2
     returns-3

@@ -5,30 +5,6 @@ use borrow.Author.Needs.{needs}
 use Rattle.frame_items.proofs.pair_length.Statement.{statement}
 use Rattle.frame_items.proofs.pair_length.Tie as tie
 
-enum-told : tie.Need-enum-told
-enum-told c = search needs
-
-enum-told-2 : tie.Need-enum-told-2
-enum-told-2 c = search needs
-
-enum-known-content : tie.Need-enum-known-content
-enum-known-content c = search needs
-
-unsigned-length-requires : tie.Need-unsigned-length-requires
-unsigned-length-requires c κs = search needs
-
-with-key-requires : tie.Need-with-key-requires
-with-key-requires c κs = search needs
-
-enum-known-content-2 : tie.Need-enum-known-content-2
-enum-known-content-2 c = search needs
-
-view-of-requires : tie.Need-view-of-requires
-view-of-requires c κs = search needs
-
-with-key-requires-2 : tie.Need-with-key-requires-2
-with-key-requires-2 c κs = search needs
-
 returns : tie.Need-returns
 unfolding heldOf encoded pairLength capped
 returns c = rw (c .enum-told .given .1)
@@ -49,14 +25,14 @@ pub pair-length-spec : {M : Type 1} → statement M
 pair-length-spec =
     tie.close
     (tie.spec
-    enum-told
-    enum-told-2
-    enum-known-content
-    unsigned-length-requires
-    with-key-requires
-    enum-known-content-2
-    view-of-requires
-    with-key-requires-2
+    (λ c. search needs)
+    (λ c. search needs)
+    (λ c. search needs)
+    (λ c κs. search needs)
+    (λ c κs. search needs)
+    (λ c. search needs)
+    (λ c κs. search needs)
+    (λ c κs. search needs)
     returns
     returns-2
     returns-3

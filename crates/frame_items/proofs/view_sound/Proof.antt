@@ -6,15 +6,6 @@ use borrow.Author.Needs.{needs}
 use Rattle.frame_items.proofs.view_sound.Statement.{statement}
 use Rattle.frame_items.proofs.view_sound.Tie as tie
 
-read-value-requires : tie.Need-read-value-requires
-read-value-requires c κs = search needs
-
-enum-known-end : tie.Need-enum-known-end
-enum-known-end c = search needs
-
-enum-told : tie.Need-enum-told
-enum-told c = search needs
-
 returns : tie.Need-returns
 unfolding sound
 returns c = is-whole _ _ _ (sym (c .before .end .given .1) ∙ c .before .before .before .read-value .ensures)
@@ -25,4 +16,4 @@ returns-2 c = is-broken _ _ _ (sym (c .enum-told .given .1) ∙ c .before .befor
 
 pub view-sound-spec : {M : Type 1} → statement M
 view-sound-spec =
-    tie.close (tie.spec read-value-requires enum-known-end enum-told returns returns-2)
+    tie.close (tie.spec (λ c κs. search needs) (λ c. search needs) (λ c. search needs) returns returns-2)

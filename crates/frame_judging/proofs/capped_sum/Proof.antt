@@ -12,11 +12,8 @@ returns c = let a = c .before .args in capped-high (a .a + a .b) (omega arith)
 returns-2 : tie.Need-returns-2
 returns-2 c = let a = c .before .before .args in capped-high (a .a + a .b) (omega arith)
 
-add-result : tie.Need-add-result
-add-result c = search needs
-
 returns-3 : tie.Need-returns-3
 returns-3 c = let a = c .before .before .args in capped-low (a .a + a .b) (omega arith)
 
 pub capped-sum-spec : {M : Type 1} → statement M
-capped-sum-spec = tie.close (tie.spec returns returns-2 add-result returns-3)
+capped-sum-spec = tie.close (tie.spec returns returns-2 (λ c. search needs) returns-3)

@@ -21,15 +21,6 @@ abbrev μ-loop : tie.MeasureT-loop
 loop-holds : tie.Need-loop-holds Inv-loop μ-loop
 loop-holds c = let a = c .before .args in (omega arith, ap (λ (xs : List Item). locate xs (a .key)) (body-run (a .frame) (a .bytes .now)))
 
-known-key-requires : tie.Need-known-key-requires Inv-loop μ-loop
-known-key-requires c κs = search needs
-
-cast-if1 : tie.Need-cast-if1 Inv-loop μ-loop
-cast-if1 c = search needs
-
-is-written-requires : tie.Need-is-written-requires Inv-loop μ-loop
-is-written-requires c κs = search needs
-
 returns : tie.Need-returns Inv-loop μ-loop
 unfolding itemOf
 returns c =
@@ -39,12 +30,6 @@ returns c =
     c .is-written .ensures
     ∙ is-present (a .bytes .now) (k .known-key .result .content)
     ∙ ap (λ (h : Held). present (encoded h)) (locate-here (a .key) (run (a .frame) (a .bytes .now) (l .i) 17 (k .known-key .result) (k .known-key .ensures) (k .before .loop-test .taken) (omega arith)) (c .before .if1 .taken) ∙ l .inv .1)
-
-add-i : tie.Need-add-i Inv-loop μ-loop
-add-i c = omega arith
-
-loop-less : tie.Need-loop-less Inv-loop μ-loop
-loop-less c = omega arith
 
 loop-again : tie.Need-loop-again Inv-loop μ-loop
 unfolding itemOf
@@ -68,11 +53,11 @@ holds-spec =
     Inv-loop
     μ-loop
     loop-holds
-    known-key-requires
-    cast-if1
-    is-written-requires
+    (λ c κs. search needs)
+    (λ c. search needs)
+    (λ c κs. search needs)
     returns
-    add-i
-    loop-less
+    (λ c. omega arith)
+    (λ c. omega arith)
     loop-again
     returns-2)

@@ -18,33 +18,6 @@ abbrev μ-loop : tie.MeasureT-loop
 loop-holds : tie.Need-loop-holds Inv-loop μ-loop
 loop-holds c = let a = c .before .args in ((omega arith, omega arith), none-yet (itemsBetween (a .from) (a .to) (a .frame) (a .bytes .now)))
 
-known-key-requires : tie.Need-known-key-requires Inv-loop μ-loop
-known-key-requires c κs = search needs
-
-is-sound-requires : tie.Need-is-sound-requires Inv-loop μ-loop
-is-sound-requires c κs = search needs
-
-content-suits-requires : tie.Need-content-suits-requires Inv-loop μ-loop
-content-suits-requires c κs = search needs
-
-pairs-of-requires : tie.Need-pairs-of-requires Inv-loop μ-loop
-pairs-of-requires c κs = search needs
-
-add-count : tie.Need-add-count Inv-loop μ-loop
-add-count c = omega arith
-
-pair-length-requires : tie.Need-pair-length-requires Inv-loop μ-loop
-pair-length-requires c κs = search needs
-
-capped-sum-requires : tie.Need-capped-sum-requires Inv-loop μ-loop
-capped-sum-requires c κs = search needs
-
-add-i : tie.Need-add-i Inv-loop μ-loop
-add-i c = omega arith
-
-loop-less : tie.Need-loop-less Inv-loop μ-loop
-loop-less c = omega arith
-
 loop-again : tie.Need-loop-again Inv-loop μ-loop
 loop-again c =
     let p = c .before .before in
@@ -68,14 +41,14 @@ judged-spec =
     Inv-loop
     μ-loop
     loop-holds
-    known-key-requires
-    is-sound-requires
-    content-suits-requires
-    pairs-of-requires
-    add-count
-    pair-length-requires
-    capped-sum-requires
-    add-i
-    loop-less
+    (λ c κs. search needs)
+    (λ c κs. search needs)
+    (λ c κs. search needs)
+    (λ c κs. search needs)
+    (λ c. omega arith)
+    (λ c κs. search needs)
+    (λ c κs. search needs)
+    (λ c. omega arith)
+    (λ c. omega arith)
     loop-again
     returns)

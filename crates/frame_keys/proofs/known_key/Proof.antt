@@ -9,57 +9,6 @@ use borrow.Author.Needs.{needs}
 use Rattle.frame_keys.proofs.known_key.Statement.{statement}
 use Rattle.frame_keys.proofs.known_key.Tie as tie
 
-number-key-requires : tie.Need-number-key-requires
-number-key-requires c κs = search needs
-
-number-key-requires-2 : tie.Need-number-key-requires-2
-number-key-requires-2 c κs = search needs
-
-number-key-requires-3 : tie.Need-number-key-requires-3
-number-key-requires-3 c κs = search needs
-
-number-key-requires-4 : tie.Need-number-key-requires-4
-number-key-requires-4 c κs = search needs
-
-number-key-requires-5 : tie.Need-number-key-requires-5
-number-key-requires-5 c κs = search needs
-
-number-key-requires-6 : tie.Need-number-key-requires-6
-number-key-requires-6 c κs = search needs
-
-number-key-requires-7 : tie.Need-number-key-requires-7
-number-key-requires-7 c κs = search needs
-
-number-key-requires-8 : tie.Need-number-key-requires-8
-number-key-requires-8 c κs = search needs
-
-number-key-requires-9 : tie.Need-number-key-requires-9
-number-key-requires-9 c κs = search needs
-
-place-key-requires : tie.Need-place-key-requires
-place-key-requires c κs = search needs
-
-place-key-requires-2 : tie.Need-place-key-requires-2
-place-key-requires-2 c κs = search needs
-
-place-key-requires-3 : tie.Need-place-key-requires-3
-place-key-requires-3 c κs = search needs
-
-place-key-requires-4 : tie.Need-place-key-requires-4
-place-key-requires-4 c κs = search needs
-
-place-key-requires-5 : tie.Need-place-key-requires-5
-place-key-requires-5 c κs = search needs
-
-place-key-requires-6 : tie.Need-place-key-requires-6
-place-key-requires-6 c κs = search needs
-
-place-key-requires-7 : tie.Need-place-key-requires-7
-place-key-requires-7 c κs = search needs
-
-place-key-requires-8 : tie.Need-place-key-requires-8
-place-key-requires-8 c κs = search needs
-
 returns : tie.Need-returns
 unfolding allItems headerItems bodyItems numberHeld
 returns c = let a = c .before .before .before .args in number-at (a .frame) (a .bytes .now) (c .before .match .keys1) (record { present = true; value = a .frame .code }) (c .number-key .ensures) refl
@@ -136,23 +85,23 @@ pub known-key-spec : {M : Type 1} → statement M
 known-key-spec =
     tie.close
     (tie.spec
-    number-key-requires
-    number-key-requires-2
-    number-key-requires-3
-    number-key-requires-4
-    number-key-requires-5
-    number-key-requires-6
-    number-key-requires-7
-    number-key-requires-8
-    number-key-requires-9
-    place-key-requires
-    place-key-requires-2
-    place-key-requires-3
-    place-key-requires-4
-    place-key-requires-5
-    place-key-requires-6
-    place-key-requires-7
-    place-key-requires-8
+    (λ c κs. search needs)
+    (λ c κs. search needs)
+    (λ c κs. search needs)
+    (λ c κs. search needs)
+    (λ c κs. search needs)
+    (λ c κs. search needs)
+    (λ c κs. search needs)
+    (λ c κs. search needs)
+    (λ c κs. search needs)
+    (λ c κs. search needs)
+    (λ c κs. search needs)
+    (λ c κs. search needs)
+    (λ c κs. search needs)
+    (λ c κs. search needs)
+    (λ c κs. search needs)
+    (λ c κs. search needs)
+    (λ c κs. search needs)
     returns
     returns-2
     returns-3

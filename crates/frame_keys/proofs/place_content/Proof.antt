@@ -15,9 +15,6 @@ returns-2 : tie.Need-returns-2
 unfolding heldOf
 returns-2 c = let a = c .before .before .before .args in place-outside (a .bytes .now) (a .place) (not-false _ (c .before .if1 .left)) (omega arith)
 
-sub-if3 : tie.Need-sub-if3
-sub-if3 c = search needs
-
 returns-3 : tie.Need-returns-3
 unfolding heldOf
 returns-3 c = let a = c .before .before .before .before .args in place-outside (a .bytes .now) (a .place) (not-false _ (c .before .before .if1 .left)) (omega arith)
@@ -27,4 +24,4 @@ unfolding heldOf
 returns-4 c = let a = c .before .before .before .before .args in place-inside (a .bytes .now) (a .place) (not-false _ (c .before .before .if1 .left)) (omega arith)
 
 pub place-content-spec : {M : Type 1} → statement M
-place-content-spec = tie.close (tie.spec returns returns-2 sub-if3 returns-3 returns-4)
+place-content-spec = tie.close (tie.spec returns returns-2 (λ c. search needs) returns-3 returns-4)

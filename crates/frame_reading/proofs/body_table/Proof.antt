@@ -7,18 +7,9 @@ use Rattle.frame_reading.specs.Steps.{entriesIn}
 use Rattle.frame_reading.proofs.body_table.Statement.{statement}
 use Rattle.frame_reading.proofs.body_table.Tie as tie
 
-enum-known-body : tie.Need-enum-known-body
-enum-known-body c = search needs
-
-enum-told : tie.Need-enum-told
-enum-told c = search needs
-
 returns : tie.Need-returns
 unfolding tabledOn laidAll entriesIn
 returns c = rw (c .enum-told .given .1)
-
-table-at-requires : tie.Need-table-at-requires
-table-at-requires c κs = search needs
 
 returns-2 : tie.Need-returns-2
 unfolding entriesIn
@@ -30,4 +21,4 @@ returns-2 c =
 
 pub body-table-spec : {M : Type 1} → statement M
 body-table-spec =
-    tie.close (tie.spec enum-known-body enum-told returns table-at-requires returns-2)
+    tie.close (tie.spec (λ c. search needs) (λ c. search needs) returns (λ c κs. search needs) returns-2)

@@ -10,12 +10,6 @@ use Rattle.frame_reading.proofs.Places.{code-absent, code-there, needs-
 use Rattle.frame_reading.proofs.by_places.Statement.{statement}
 use Rattle.frame_reading.proofs.by_places.Tie as tie
 
-number-in-requires : tie.Need-number-in-requires
-number-in-requires c κs = search needs
-
-refused-requires : tie.Need-refused-requires
-refused-requires c κs = search needs
-
 returns : tie.Need-returns
 unfolding codeIn
 returns c =
@@ -24,12 +18,6 @@ returns c =
     c .refused .ensures
     ∙ no-code (a .s .now) (placeIn (a .header-starts .now) (a .header-lengths .now)) (placeIn (a .starts .now) (a .lengths .now))
     (code-absent _ _ (n .number-in .ensures) (not-true _ (c .before .if1 .taken)))
-
-needs-of-requires : tie.Need-needs-of-requires
-needs-of-requires c κs = search needs
-
-refused-requires-2 : tie.Need-refused-requires-2
-refused-requires-2 c κs = search needs
 
 returns-2 : tie.Need-returns-2
 unfolding codeIn
@@ -41,15 +29,6 @@ returns-2 c =
     ∙ no-such-code (a .s .now) (placeIn (a .header-starts .now) (a .header-lengths .now)) (placeIn (a .starts .now) (a .lengths .now))
     _ (code-there _ _ (n .number-in .ensures) (not-false _ (d .before .if1 .left)))
     (needs-none _ _ (d .needs-of .ensures .0) (not-true _ (c .before .if2 .taken)))
-
-header-suits-requires : tie.Need-header-suits-requires
-header-suits-requires c κs = search needs
-
-body-suits-requires : tie.Need-body-suits-requires
-body-suits-requires c κs = search needs
-
-refused-requires-3 : tie.Need-refused-requires-3
-refused-requires-3 c κs = search needs
 
 returns-3 : tie.Need-returns-3
 unfolding codeIn
@@ -72,12 +51,6 @@ slice-aggregate-all-there c =
     let d = c .before .before .before .before .before .before .before in
     sym (length-take-le _ (d .needs-of .result .keys) (d .needs-of .ensures .1))
 
-all-there-requires : tie.Need-all-there-requires
-all-there-requires c κs = search needs
-
-refused-requires-4 : tie.Need-refused-requires-4
-refused-requires-4 c κs = search needs
-
 returns-4 : tie.Need-returns-4
 unfolding codeIn
 returns-4 c =
@@ -92,9 +65,6 @@ returns-4 c =
     _ (needs-some _ _ (d .needs-of .ensures .0) (not-false _ (h .before .if2 .left)))
     (both-are (h .header-suits .ensures) (i .before .body-suits .ensures) (not-false _ (i .if3 .left)))
     (sym (c .before .before .all-there .ensures) ∙ not-true _ (c .before .if4 .taken))
-
-frame-of-requires : tie.Need-frame-of-requires
-frame-of-requires c κs = search needs
 
 returns-5 : tie.Need-returns-5
 unfolding codeIn
@@ -115,20 +85,20 @@ pub by-places-spec : {M : Type 1} → statement M
 by-places-spec =
     tie.close
     (tie.spec
-    number-in-requires
-    refused-requires
+    (λ c κs. search needs)
+    (λ c κs. search needs)
     returns
-    needs-of-requires
-    refused-requires-2
+    (λ c κs. search needs)
+    (λ c κs. search needs)
     returns-2
-    header-suits-requires
-    body-suits-requires
-    refused-requires-3
+    (λ c κs. search needs)
+    (λ c κs. search needs)
+    (λ c κs. search needs)
     returns-3
     array-share-prefix-keys
     slice-aggregate-all-there
-    all-there-requires
-    refused-requires-4
+    (λ c κs. search needs)
+    (λ c κs. search needs)
     returns-4
-    frame-of-requires
+    (λ c κs. search needs)
     returns-5)

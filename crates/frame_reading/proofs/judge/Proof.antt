@@ -5,24 +5,12 @@ use Rattle.frame_reading.proofs.Places.{long, judged-6, judged-7, judge
 use Rattle.frame_reading.proofs.judge.Statement.{statement}
 use Rattle.frame_reading.proofs.judge.Tie as tie
 
-table-at-requires : tie.Need-table-at-requires
-table-at-requires c κs = search needs
-
-body-table-requires : tie.Need-body-table-requires
-body-table-requires c κs = search needs
-
-refused-requires : tie.Need-refused-requires
-refused-requires c κs = search needs
-
 returns : tie.Need-returns
 returns c =
     let b = c .before .before in
     let t = b .before .before .before in
     let a = t .before .before .before .before .args in
     c .refused .ensures ∙ judged-6 (a .s .now) (a .at) (a .body) _ _ (t .table-at .ensures) (b .body-table .ensures) (c .before .if1 .taken)
-
-refused-requires-2 : tie.Need-refused-requires-2
-refused-requires-2 c κs = search needs
 
 returns-2 : tie.Need-returns-2
 returns-2 c =
@@ -44,9 +32,6 @@ slice-aggregate-by-places-3 c = long _ (c .before .before .before .before .befor
 slice-aggregate-by-places-4 : tie.Need-slice-aggregate-by-places-4
 slice-aggregate-by-places-4 c = long _ (c .before .before .before .before .before .before .body-table .ensures) .1
 
-by-places-requires : tie.Need-by-places-requires
-by-places-requires c κs = search needs
-
 returns-3 : tie.Need-returns-3
 returns-3 c =
     let i = c .before .before .before .before .before in
@@ -60,15 +45,15 @@ pub judge-spec : {M : Type 1} → statement M
 judge-spec =
     tie.close
     (tie.spec
-    table-at-requires
-    body-table-requires
-    refused-requires
+    (λ c κs. search needs)
+    (λ c κs. search needs)
+    (λ c κs. search needs)
     returns
-    refused-requires-2
+    (λ c κs. search needs)
     returns-2
     slice-aggregate-by-places
     slice-aggregate-by-places-2
     slice-aggregate-by-places-3
     slice-aggregate-by-places-4
-    by-places-requires
+    (λ c κs. search needs)
     returns-3)

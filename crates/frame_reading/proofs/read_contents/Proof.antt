@@ -11,35 +11,11 @@ use Rattle.frame_reading.proofs.Contents.{body-there, body-missing, mov
 use Rattle.frame_reading.proofs.read_contents.Statement.{statement}
 use Rattle.frame_reading.proofs.read_contents.Tie as tie
 
-read-value-requires : tie.Need-read-value-requires
-read-value-requires c κs = search needs
-
-enum-known-end : tie.Need-enum-known-end
-enum-known-end c = search needs
-
-enum-told : tie.Need-enum-told
-enum-told c = search needs
-
-refused-requires : tie.Need-refused-requires
-refused-requires c κs = search needs
-
 returns : tie.Need-returns
 returns c =
     let v = c .before .before .before in
     let a = v .before .before .args in
     c .refused .ensures ∙ no-header (a .s .now) (a .at) _ (sym (c .before .enum-told .given .1) ∙ v .read-value .ensures)
-
-body-at-requires : tie.Need-body-at-requires
-body-at-requires c κs = search needs
-
-enum-known-from : tie.Need-enum-known-from
-enum-known-from c = search needs
-
-enum-told-2 : tie.Need-enum-told-2
-enum-told-2 c = search needs
-
-judge-requires : tie.Need-judge-requires
-judge-requires c κs = search needs
 
 returns-2 : tie.Need-returns-2
 returns-2 c =
@@ -50,18 +26,6 @@ returns-2 c =
     let a = v .before .before .args in
     c .judge .ensures
     ∙ no-body (a .s .now) (a .at) _ (sym (e .end .given .1) ∙ v .read-value .ensures) (body-missing (a .s .now) _ (sym (o .enum-told2 .given .1) ∙ b .body-at .ensures))
-
-read-value-requires-2 : tie.Need-read-value-requires-2
-read-value-requires-2 c κs = search needs
-
-enum-known-last : tie.Need-enum-known-last
-enum-known-last c = search needs
-
-enum-told-3 : tie.Need-enum-told-3
-enum-told-3 c = search needs
-
-refused-requires-2 : tie.Need-refused-requires-2
-refused-requires-2 c κs = search needs
 
 returns-3 : tie.Need-returns-3
 returns-3 c =
@@ -74,9 +38,6 @@ returns-3 c =
     let d = body-there (a .s .now) _ _ (sym (f .from .given .1) ∙ b .body-at .ensures) in
     c .refused2 .ensures
     ∙ bad-body (a .s .now) (a .at) _ (sym (e .end .given .1) ∙ v .read-value .ensures) (d .0) _ (moved _ (a .s .now) _ _ (d .1) (sym (c .before .enum-told3 .given .1) ∙ w .read-value2 .ensures))
-
-refused-requires-3 : tie.Need-refused-requires-3
-refused-requires-3 c κs = search needs
 
 returns-4 : tie.Need-returns-4
 returns-4 c =
@@ -91,9 +52,6 @@ returns-4 c =
     c .refused3 .ensures
     ∙ bytes-remain (a .s .now) (a .at) _ (sym (e .end .given .1) ∙ v .read-value .ensures) (d .0) _ (moved _ (a .s .now) _ _ (d .1) (sym (l .last .given .1) ∙ w .read-value2 .ensures))
     (c .before .if1 .taken)
-
-judge-requires-2 : tie.Need-judge-requires-2
-judge-requires-2 c κs = search needs
 
 returns-5 : tie.Need-returns-5
 returns-5 c =
@@ -115,22 +73,22 @@ pub read-contents-spec : {M : Type 1} → statement M
 read-contents-spec =
     tie.close
     (tie.spec
-    read-value-requires
-    enum-known-end
-    enum-told
-    refused-requires
+    (λ c κs. search needs)
+    (λ c. search needs)
+    (λ c. search needs)
+    (λ c κs. search needs)
     returns
-    body-at-requires
-    enum-known-from
-    enum-told-2
-    judge-requires
+    (λ c κs. search needs)
+    (λ c. search needs)
+    (λ c. search needs)
+    (λ c κs. search needs)
     returns-2
-    read-value-requires-2
-    enum-known-last
-    enum-told-3
-    refused-requires-2
+    (λ c κs. search needs)
+    (λ c. search needs)
+    (λ c. search needs)
+    (λ c κs. search needs)
     returns-3
-    refused-requires-3
+    (λ c κs. search needs)
     returns-4
-    judge-requires-2
+    (λ c κs. search needs)
     returns-5)

@@ -7,35 +7,17 @@ use Rattle.frame_reading.proofs.Contents.{frame-refused, size-fits, not
 use Rattle.frame_reading.proofs.read_frame.Statement.{statement}
 use Rattle.frame_reading.proofs.read_frame.Tie as tie
 
-read-size-requires : tie.Need-read-size-requires
-read-size-requires c κs = search needs
-
-enum-known-number : tie.Need-enum-known-number
-enum-known-number c = search needs
-
-refused-requires : tie.Need-refused-requires
-refused-requires c κs = search needs
-
-enum-known-size : tie.Need-enum-known-size
-enum-known-size c = search needs
-
 sub-if1 : tie.Need-sub-if1
 sub-if1 c =
     let z = c .before in
     let r = z .before .before in
     size-fits (r .before .before .args .s .now) _ _ (sym (z .size .given .1) ∙ r .read-size .ensures)
 
-refused-requires-2 : tie.Need-refused-requires-2
-refused-requires-2 c κs = search needs
-
 returns : tie.Need-returns
 returns c =
     let z = c .before .before .before in
     let r = z .before .before in
     c .refused2 .ensures ∙ not-all-come (r .before .before .args .s .now) _ _ (sym (z .size .given .1) ∙ r .read-size .ensures) (c .before .if1 .taken)
-
-add-end : tie.Need-add-end
-add-end c = search needs
 
 slice-aggregate-read-contents : tie.Need-slice-aggregate-read-contents
 slice-aggregate-read-contents c =
@@ -44,9 +26,6 @@ slice-aggregate-read-contents c =
     let s = r .before .before .args .s .now in
     let h = size-fits s _ _ (sym (z .size .given .1) ∙ r .read-size .ensures) in
     sym (length-take-le _ s (omega arith))
-
-read-contents-requires : tie.Need-read-contents-requires
-read-contents-requires c κs = search needs
 
 returns-2 : tie.Need-returns-2
 returns-2 c =
@@ -64,15 +43,15 @@ pub read-frame-spec : {M : Type 1} → statement M
 read-frame-spec =
     tie.close
     (tie.spec
-    read-size-requires
-    enum-known-number
-    refused-requires
-    enum-known-size
+    (λ c κs. search needs)
+    (λ c. search needs)
+    (λ c κs. search needs)
+    (λ c. search needs)
     sub-if1
-    refused-requires-2
+    (λ c κs. search needs)
     returns
-    add-end
+    (λ c. search needs)
     slice-aggregate-read-contents
-    read-contents-requires
+    (λ c κs. search needs)
     returns-2
     returns-3)

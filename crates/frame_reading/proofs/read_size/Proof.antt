@@ -5,12 +5,6 @@ use Rattle.frame_reading.proofs.Contents.{size-other, size-cut, size-no
 use Rattle.frame_reading.proofs.read_size.Statement.{statement}
 use Rattle.frame_reading.proofs.read_size.Tie as tie
 
-unsigned-at-requires : tie.Need-unsigned-at-requires
-unsigned-at-requires c κs = search needs
-
-enum-known-n : tie.Need-enum-known-n
-enum-known-n c = search needs
-
 returns : tie.Need-returns
 returns c =
     let n = c .before .before in
@@ -22,12 +16,6 @@ returns-2 c =
     let n = c .before .before .before in
     let u = n .before .before in
     size-large (u .before .before .args .s .now) _ _ (sym (n .n .given .1) ∙ u .unsigned-at .ensures) (c .if2 .taken)
-
-enum-told : tie.Need-enum-told
-enum-told c = search needs
-
-enum-told-2 : tie.Need-enum-told-2
-enum-told-2 c = search needs
 
 returns-3 : tie.Need-returns-3
 returns-3 c =
@@ -49,12 +37,12 @@ pub read-size-spec : {M : Type 1} → statement M
 read-size-spec =
     tie.close
     (tie.spec
-    unsigned-at-requires
-    enum-known-n
+    (λ c κs. search needs)
+    (λ c. search needs)
     returns
     returns-2
-    enum-told
-    enum-told-2
+    (λ c. search needs)
+    (λ c. search needs)
     returns-3
     returns-4
     returns-5)

@@ -6,12 +6,9 @@ use Rattle.frames.specs.Reading.{refuse}
 use Rattle.frame_reading.proofs.refused.Statement.{statement}
 use Rattle.frame_reading.proofs.refused.Tie as tie
 
-empty-frame-requires : tie.Need-empty-frame-requires
-empty-frame-requires c κs = search needs
-
 returns : tie.Need-returns
 unfolding refuse
 returns c = ap (λ (r : Frame). record { number = c .before .args .number; length = 0; frame = r }) (c .empty-frame .ensures)
 
 pub refused-spec : {M : Type 1} → statement M
-refused-spec = tie.close (tie.spec empty-frame-requires returns)
+refused-spec = tie.close (tie.spec (λ c κs. search needs) returns)

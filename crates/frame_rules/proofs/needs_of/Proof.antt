@@ -9,45 +9,6 @@ use Rattle.frame_rules.proofs.Laws.{known-code, error-code, unknown-cod
 use Rattle.frame_rules.proofs.needs_of.Statement.{statement}
 use Rattle.frame_rules.proofs.needs_of.Tie as tie
 
-needing-requires : tie.Need-needing-requires
-needing-requires c κs = search needs
-
-needing-requires-2 : tie.Need-needing-requires-2
-needing-requires-2 c κs = search needs
-
-needing-requires-3 : tie.Need-needing-requires-3
-needing-requires-3 c κs = search needs
-
-needing-requires-4 : tie.Need-needing-requires-4
-needing-requires-4 c κs = search needs
-
-needing-requires-5 : tie.Need-needing-requires-5
-needing-requires-5 c κs = search needs
-
-needing-requires-6 : tie.Need-needing-requires-6
-needing-requires-6 c κs = search needs
-
-needing-requires-7 : tie.Need-needing-requires-7
-needing-requires-7 c κs = search needs
-
-needing-requires-8 : tie.Need-needing-requires-8
-needing-requires-8 c κs = search needs
-
-needing-requires-9 : tie.Need-needing-requires-9
-needing-requires-9 c κs = search needs
-
-needing-requires-10 : tie.Need-needing-requires-10
-needing-requires-10 c κs = search needs
-
-needing-requires-11 : tie.Need-needing-requires-11
-needing-requires-11 c κs = search needs
-
-needing-requires-12 : tie.Need-needing-requires-12
-needing-requires-12 c κs = search needs
-
-needing-requires-13 : tie.Need-needing-requires-13
-needing-requires-13 c κs = search needs
-
 returns : tie.Need-returns
 unfolding required isError among codes
 returns c = known-code (c .before .match .keys1) (c .needing .ensures) refl (omega arith)
@@ -111,19 +72,19 @@ pub needs-of-spec : {M : Type 1} → statement M
 needs-of-spec =
     tie.close
     (tie.spec
-    needing-requires
-    needing-requires-2
-    needing-requires-3
-    needing-requires-4
-    needing-requires-5
-    needing-requires-6
-    needing-requires-7
-    needing-requires-8
-    needing-requires-9
-    needing-requires-10
-    needing-requires-11
-    needing-requires-12
-    needing-requires-13
+    (λ c κs. search needs)
+    (λ c κs. search needs)
+    (λ c κs. search needs)
+    (λ c κs. search needs)
+    (λ c κs. search needs)
+    (λ c κs. search needs)
+    (λ c κs. search needs)
+    (λ c κs. search needs)
+    (λ c κs. search needs)
+    (λ c κs. search needs)
+    (λ c κs. search needs)
+    (λ c κs. search needs)
+    (λ c κs. search needs)
     returns
     returns-2
     returns-3

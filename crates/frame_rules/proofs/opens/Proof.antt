@@ -5,15 +5,6 @@ use Rattle.frame_rules.proofs.Laws.{is-opened, not-opened}
 use Rattle.frame_rules.proofs.opens.Statement.{statement}
 use Rattle.frame_rules.proofs.opens.Tie as tie
 
-header-at-requires : tie.Need-header-at-requires
-header-at-requires c κs = search needs
-
-enum-told : tie.Need-enum-told
-enum-told c = search needs
-
-enum-told-2 : tie.Need-enum-told-2
-enum-told-2 c = search needs
-
 returns : tie.Need-returns
 returns c = is-opened _ _ _ (sym (c .enum-told .given .1) ∙ c .before .before .header-at .ensures)
 
@@ -21,4 +12,4 @@ returns-2 : tie.Need-returns-2
 returns-2 c = not-opened _ (sym (c .enum-told2 .given .1) ∙ c .before .before .header-at .ensures)
 
 pub opens-spec : {M : Type 1} → statement M
-opens-spec = tie.close (tie.spec header-at-requires enum-told enum-told-2 returns returns-2)
+opens-spec = tie.close (tie.spec (λ c κs. search needs) (λ c. search needs) (λ c. search needs) returns returns-2)

@@ -6,27 +6,6 @@ use Rattle.frames.specs.declared.Rule.{Rule}
 use Rattle.frame_rules.proofs.suits_rule.Statement.{statement}
 use Rattle.frame_rules.proofs.suits_rule.Tie as tie
 
-enum-known-rule : tie.Need-enum-known-rule
-enum-known-rule c = search needs
-
-at-most-requires : tie.Need-at-most-requires
-at-most-requires c κs = search needs
-
-enum-told : tie.Need-enum-told
-enum-told c = search needs
-
-opens-requires : tie.Need-opens-requires
-opens-requires c κs = search needs
-
-enum-told-2 : tie.Need-enum-told-2
-enum-told-2 c = search needs
-
-opens-requires-2 : tie.Need-opens-requires-2
-opens-requires-2 c κs = search needs
-
-enum-told-3 : tie.Need-enum-told-3
-enum-told-3 c = search needs
-
 returns : tie.Need-returns
 returns c =
     let a = c .before .before .before .before .before .args in
@@ -54,13 +33,13 @@ pub suits-rule-spec : {M : Type 1} → statement M
 suits-rule-spec =
     tie.close
     (tie.spec
-    enum-known-rule
-    at-most-requires
-    enum-told
-    opens-requires
-    enum-told-2
-    opens-requires-2
-    enum-told-3
+    (λ c. search needs)
+    (λ c κs. search needs)
+    (λ c. search needs)
+    (λ c κs. search needs)
+    (λ c. search needs)
+    (λ c κs. search needs)
+    (λ c. search needs)
     returns
     returns-2
     returns-3

@@ -9,48 +9,6 @@ use Rattle.frame_fields.proofs.Laws.{suitsAt, all-left}
 use Rattle.frame_suits.proofs.body_suits.Statement.{statement}
 use Rattle.frame_suits.proofs.body_suits.Tie as tie
 
-key-suits-requires : tie.Need-key-suits-requires
-key-suits-requires c κs = search needs
-
-key-suits-requires-2 : tie.Need-key-suits-requires-2
-key-suits-requires-2 c κs = search needs
-
-key-suits-requires-3 : tie.Need-key-suits-requires-3
-key-suits-requires-3 c κs = search needs
-
-key-suits-requires-4 : tie.Need-key-suits-requires-4
-key-suits-requires-4 c κs = search needs
-
-key-suits-requires-5 : tie.Need-key-suits-requires-5
-key-suits-requires-5 c κs = search needs
-
-key-suits-requires-6 : tie.Need-key-suits-requires-6
-key-suits-requires-6 c κs = search needs
-
-key-suits-requires-7 : tie.Need-key-suits-requires-7
-key-suits-requires-7 c κs = search needs
-
-key-suits-requires-8 : tie.Need-key-suits-requires-8
-key-suits-requires-8 c κs = search needs
-
-key-suits-requires-9 : tie.Need-key-suits-requires-9
-key-suits-requires-9 c κs = search needs
-
-key-suits-requires-10 : tie.Need-key-suits-requires-10
-key-suits-requires-10 c κs = search needs
-
-key-suits-requires-11 : tie.Need-key-suits-requires-11
-key-suits-requires-11 c κs = search needs
-
-key-suits-requires-12 : tie.Need-key-suits-requires-12
-key-suits-requires-12 c κs = search needs
-
-key-suits-requires-13 : tie.Need-key-suits-requires-13
-key-suits-requires-13 c κs = search needs
-
-key-suits-requires-14 : tie.Need-key-suits-requires-14
-key-suits-requires-14 c κs = search needs
-
 returns : tie.Need-returns
 unfolding suited all bodyItems
 returns c =
@@ -62,18 +20,18 @@ pub body-suits-spec : {M : Type 1} → statement M
 body-suits-spec =
     tie.close
     (tie.spec
-    key-suits-requires
-    key-suits-requires-2
-    key-suits-requires-3
-    key-suits-requires-4
-    key-suits-requires-5
-    key-suits-requires-6
-    key-suits-requires-7
-    key-suits-requires-8
-    key-suits-requires-9
-    key-suits-requires-10
-    key-suits-requires-11
-    key-suits-requires-12
-    key-suits-requires-13
-    key-suits-requires-14
+    (λ c κs. search needs)
+    (λ c κs. search needs)
+    (λ c κs. search needs)
+    (λ c κs. search needs)
+    (λ c κs. search needs)
+    (λ c κs. search needs)
+    (λ c κs. search needs)
+    (λ c κs. search needs)
+    (λ c κs. search needs)
+    (λ c κs. search needs)
+    (λ c κs. search needs)
+    (λ c κs. search needs)
+    (λ c κs. search needs)
+    (λ c κs. search needs)
     returns)

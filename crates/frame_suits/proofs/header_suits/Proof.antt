@@ -9,15 +9,6 @@ use Rattle.frame_fields.proofs.Laws.{suitsAt, all-left}
 use Rattle.frame_suits.proofs.header_suits.Statement.{statement}
 use Rattle.frame_suits.proofs.header_suits.Tie as tie
 
-key-suits-requires : tie.Need-key-suits-requires
-key-suits-requires c κs = search needs
-
-key-suits-requires-2 : tie.Need-key-suits-requires-2
-key-suits-requires-2 c κs = search needs
-
-key-suits-requires-3 : tie.Need-key-suits-requires-3
-key-suits-requires-3 c κs = search needs
-
 returns : tie.Need-returns
 unfolding suited all headerItems
 returns c =
@@ -27,4 +18,4 @@ returns c =
 
 pub header-suits-spec : {M : Type 1} → statement M
 header-suits-spec =
-    tie.close (tie.spec key-suits-requires key-suits-requires-2 key-suits-requires-3 returns)
+    tie.close (tie.spec (λ c κs. search needs) (λ c κs. search needs) (λ c κs. search needs) returns)

@@ -5,15 +5,6 @@ use Rattle.frame_fields.proofs.Laws.{suits-there, suits-none}
 use Rattle.frame_suits.proofs.key_suits.Statement.{statement}
 use Rattle.frame_suits.proofs.key_suits.Tie as tie
 
-place-in-requires : tie.Need-place-in-requires
-place-in-requires c κs = search needs
-
-view-of-requires : tie.Need-view-of-requires
-view-of-requires c κs = search needs
-
-suits-rule-requires : tie.Need-suits-rule-requires
-suits-rule-requires c κs = search needs
-
 returns : tie.Need-returns
 returns c =
     let p = c .before .before .before in
@@ -28,4 +19,4 @@ returns-2 c =
 
 pub key-suits-spec : {M : Type 1} → statement M
 key-suits-spec =
-    tie.close (tie.spec place-in-requires view-of-requires suits-rule-requires returns returns-2)
+    tie.close (tie.spec (λ c κs. search needs) (λ c κs. search needs) (λ c κs. search needs) returns returns-2)

@@ -5,12 +5,6 @@ use Rattle.frame_tables.proofs.Entries.{no-number, large-key, no-value,
 use Rattle.frame_tables.proofs.entry_at.Statement.{statement}
 use Rattle.frame_tables.proofs.entry_at.Tie as tie
 
-unsigned-at-requires : tie.Need-unsigned-at-requires
-unsigned-at-requires c κs = search needs
-
-enum-known-key : tie.Need-enum-known-key
-enum-known-key c = search needs
-
 returns : tie.Need-returns
 returns c =
     let a = c .before .before .before .args in
@@ -21,15 +15,6 @@ returns-2 c =
     let b = c .before .before .before in
     let a = b .before .before .before .args in
     large-key (a .s .now) (a .at) _ _ (sym (c .before .before .key .given .1) ∙ b .before .unsigned-at .ensures) (c .if1 .taken)
-
-read-value-requires : tie.Need-read-value-requires
-read-value-requires c κs = search needs
-
-enum-known-end : tie.Need-enum-known-end
-enum-known-end c = search needs
-
-enum-told : tie.Need-enum-told
-enum-told c = search needs
 
 returns-3 : tie.Need-returns-3
 returns-3 c =
@@ -54,13 +39,13 @@ pub entry-at-spec : {M : Type 1} → statement M
 entry-at-spec =
     tie.close
     (tie.spec
-    unsigned-at-requires
-    enum-known-key
+    (λ c κs. search needs)
+    (λ c. search needs)
     returns
     returns-2
-    read-value-requires
-    enum-known-end
-    enum-told
+    (λ c κs. search needs)
+    (λ c. search needs)
+    (λ c. search needs)
     returns-3
     sub-t10
     returns-4)

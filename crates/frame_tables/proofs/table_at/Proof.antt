@@ -7,21 +7,6 @@ use Rattle.frame_tables.proofs.Entries.{no-map, a-map}
 use Rattle.frame_tables.proofs.table_at.Statement.{statement}
 use Rattle.frame_tables.proofs.table_at.Tie as tie
 
-header-at-requires : tie.Need-header-at-requires
-header-at-requires c κs = search needs
-
-enum-known-count : tie.Need-enum-known-count
-enum-known-count c = search needs
-
-table-of-requires : tie.Need-table-of-requires
-table-of-requires c κs = search needs
-
-enum-told : tie.Need-enum-told
-enum-told c = search needs
-
-no-table-requires : tie.Need-no-table-requires
-no-table-requires c κs = search needs
-
 returns : tie.Need-returns
 returns c =
     let k = c .before .before .before .before in
@@ -43,10 +28,10 @@ pub table-at-spec : {M : Type 1} → statement M
 table-at-spec =
     tie.close
     (tie.spec
-    header-at-requires
-    enum-known-count
-    table-of-requires
-    enum-told
-    no-table-requires
+    (λ c κs. search needs)
+    (λ c. search needs)
+    (λ c κs. search needs)
+    (λ c. search needs)
+    (λ c κs. search needs)
     returns
     returns-2)

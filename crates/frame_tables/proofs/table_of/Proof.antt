@@ -23,18 +23,6 @@ abbrev μ-loop : tie.MeasureT-loop
 loop-holds : tie.Need-loop-holds Inv-loop μ-loop
 loop-holds c = refl
 
-entry-at-requires : tie.Need-entry-at-requires Inv-loop μ-loop
-entry-at-requires c κs = search needs
-
-enum-known-key : tie.Need-enum-known-key Inv-loop μ-loop
-enum-known-key c = search needs
-
-enum-told : tie.Need-enum-told Inv-loop μ-loop
-enum-told c = search needs
-
-no-table-requires : tie.Need-no-table-requires Inv-loop μ-loop
-no-table-requires c κs = search needs
-
 -- what is left, with one entry taken from its count
 left-one : (c : tie.In-loop Inv-loop μ-loop) →
     (let a = c .before .before .before .args in let l = c .before .loop in
@@ -85,12 +73,6 @@ element-write-lengths c = fits (c .before .before .before) .low
 add-at : tie.Need-add-at Inv-loop μ-loop
 add-at c = let f = fits (c .before .before .before) in omega arith
 
-sub-left : tie.Need-sub-left Inv-loop μ-loop
-sub-left c = omega arith
-
-loop-less : tie.Need-loop-less Inv-loop μ-loop
-loop-less c = omega arith
-
 loop-again : tie.Need-loop-again Inv-loop μ-loop
 loop-again c =
     let k = c .before .before .before in
@@ -119,10 +101,10 @@ table-of-spec =
     Inv-loop
     μ-loop
     loop-holds
-    entry-at-requires
-    enum-known-key
-    enum-told
-    no-table-requires
+    (λ c κs. search needs)
+    (λ c. search needs)
+    (λ c. search needs)
+    (λ c κs. search needs)
     returns
     mul-if1
     element-copy-out-if1
@@ -131,7 +113,7 @@ table-of-spec =
     mul-lengths
     element-write-lengths
     add-at
-    sub-left
-    loop-less
+    (λ c. omega arith)
+    (λ c. omega arith)
     loop-again
     returns-2)

@@ -6,9 +6,6 @@ use borrow.Author.Needs.{needs}
 use Rattle.frame_writing.proofs.put_frame.Statement.{statement}
 use Rattle.frame_writing.proofs.put_frame.Tie as tie
 
-write-tagged-requires : tie.Need-write-tagged-requires
-write-tagged-requires c κs = search needs
-
 put-map-requires : tie.Need-put-map-requires
 put-map-requires c κs =
     let w = c .before .before .before in
@@ -26,9 +23,6 @@ put-map-requires-2 c κs =
     let t = size-turn (a .frame) (a .bytes .now) (a .size) (s .pre .0 .0) (s .pre .1) (w .write-tagged .ensures) in
     (((omega arith, omega arith), s .pre .0 .1 .1), turn-on t (headerForm (a .frame) (a .bytes .now)) refl (q .put-map .ensures) .room)
 
-same-length : tie.Need-same-length
-same-length c = search needs
-
 returns : tie.Need-returns
 returns c =
     let p = c .before .before in
@@ -43,4 +37,4 @@ returns c =
 pub put-frame-spec : {M : Type 1} → statement M
 put-frame-spec =
     tie.close
-    (tie.spec write-tagged-requires put-map-requires put-map-requires-2 same-length returns)
+    (tie.spec (λ c κs. search needs) put-map-requires put-map-requires-2 (λ c. search needs) returns)

@@ -1,14 +1,11 @@
 -- The header, then the pairs. Assumes nothing.
 use mathlib.Core.Path.{_∙_}
-use Rattle.writing.specs.Forms.{mapHeader}
+use Rattle.msgpack_writing.specs.Forms.{mapHeader}
 use Rattle.frame_judging.specs.Parts.{itemsBetween}
 use Rattle.frame_writing.proofs.Turns.{map-first, turn}
 use borrow.Author.Needs.{needs}
 use Rattle.frame_writing.proofs.put_map.Statement.{statement}
 use Rattle.frame_writing.proofs.put_map.Tie as tie
-
-write-map-header-requires : tie.Need-write-map-header-requires
-write-map-header-requires c κs = search needs
 
 put-pairs-requires : tie.Need-put-pairs-requires
 put-pairs-requires c κs =
@@ -17,9 +14,6 @@ put-pairs-requires c κs =
     let a = s .args in
     let t = turn (a .out .now) (a .at) (mapHeader (a .count)) (map-first (itemsBetween (a .from) (a .to) (a .frame) (a .bytes .now)) (s .pre .0 .1)) (s .pre .1) (w .write-map-header .ensures) in
     (s .pre .0 .0, t .room)
-
-same-length : tie.Need-same-length
-same-length c = search needs
 
 returns : tie.Need-returns
 returns c =
@@ -34,7 +28,7 @@ pub put-map-spec : {M : Type 1} → statement M
 put-map-spec =
     tie.close
     (tie.spec
-    write-map-header-requires
+    (λ c κs. search needs)
     put-pairs-requires
-    same-length
+    (λ c. search needs)
     returns)

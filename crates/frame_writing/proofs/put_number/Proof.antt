@@ -1,19 +1,10 @@
 -- The key, then what it holds. Assumes nothing.
 use mathlib.Core.List.{[], _∷_}
-use Rattle.writing.specs.Forms.{bigEndian}
-use Rattle.writing.proofs.Put.{wrote, written, step}
+use Rattle.msgpack_writing.specs.Forms.{bigEndian}
+use Rattle.msgpack_writing.proofs.Put.{wrote, written, step}
 use borrow.Author.Needs.{needs}
 use Rattle.frame_writing.proofs.put_number.Statement.{statement}
 use Rattle.frame_writing.proofs.put_number.Tie as tie
-
-write-tagged-requires : tie.Need-write-tagged-requires
-write-tagged-requires c κs = search needs
-
-write-unsigned-requires : tie.Need-write-unsigned-requires
-write-unsigned-requires c κs = search needs
-
-same-length : tie.Need-same-length
-same-length c = search needs
 
 returns : tie.Need-returns
 unfolding bigEndian
@@ -25,4 +16,4 @@ returns c =
 
 pub put-number-spec : {M : Type 1} → statement M
 put-number-spec =
-    tie.close (tie.spec write-tagged-requires write-unsigned-requires same-length returns)
+    tie.close (tie.spec (λ c κs. search needs) (λ c κs. search needs) (λ c. search needs) returns)

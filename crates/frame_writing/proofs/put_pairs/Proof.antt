@@ -1,7 +1,7 @@
 -- One pair after the other. Assumes nothing.
 use mathlib.Core.Path.{ap}
 use Prim.Native.Nat.{_-_, _≤_}
-use Rattle.values.specs.Pieces.{joined}
+use Rattle.msgpack_values.specs.Pieces.{joined}
 use Rattle.frames.specs.Held.{encoded}
 use Rattle.frames.specs.Writing.{pairs, flat}
 use Rattle.frame_items.specs.Content.{heldOf}
@@ -22,21 +22,12 @@ abbrev μ-loop : tie.MeasureT-loop
 loop-holds : tie.Need-loop-holds Inv-loop μ-loop
 loop-holds c = (omega arith, all-left _ _ _ (c .before .before .pre .1))
 
-known-key-requires : tie.Need-known-key-requires Inv-loop μ-loop
-known-key-requires c κs = search needs
-
 put-pair-requires : tie.Need-put-pair-requires Inv-loop μ-loop
 put-pair-requires c κs =
     let k = c .before in
     let l = k .before .before .loop in
     let a = k .before .before .before .before .before .args in
     first-room (pairOf (k .known-key .result .key) (encoded (heldOf (a .bytes .now) (k .known-key .result .content)))) _ (l .a) (pair-first (a .bytes .now) (k .known-key .result) (run (a .frame) (a .bytes .now) (l .i) (a .to) (k .known-key .result) (k .known-key .ensures) (k .before .loop-test .taken) (omega arith))) (l .inv .1 .room)
-
-add-i : tie.Need-add-i Inv-loop μ-loop
-add-i c = omega arith
-
-loop-less : tie.Need-loop-less Inv-loop μ-loop
-loop-less c = omega arith
 
 loop-again : tie.Need-loop-again Inv-loop μ-loop
 loop-again c =
@@ -62,10 +53,10 @@ put-pairs-spec =
     Inv-loop
     μ-loop
     loop-holds
-    known-key-requires
+    (λ c κs. search needs)
     put-pair-requires
-    add-i
-    loop-less
+    (λ c. omega arith)
+    (λ c. omega arith)
     loop-again
     same-length
     returns)

@@ -1,19 +1,10 @@
 -- The key, then what it holds. Assumes nothing.
 use mathlib.Core.List.{[], _∷_}
-use Rattle.writing.specs.Forms.{bigEndian}
-use Rattle.writing.proofs.Put.{wrote, written, step}
+use Rattle.msgpack_writing.specs.Forms.{bigEndian}
+use Rattle.msgpack_writing.proofs.Put.{wrote, written, step}
 use borrow.Author.Needs.{needs}
 use Rattle.frame_writing.proofs.put_view.Statement.{statement}
 use Rattle.frame_writing.proofs.put_view.Tie as tie
-
-write-tagged-requires : tie.Need-write-tagged-requires
-write-tagged-requires c κs = search needs
-
-write-bytes-requires : tie.Need-write-bytes-requires
-write-bytes-requires c κs = search needs
-
-same-length : tie.Need-same-length
-same-length c = search needs
 
 returns : tie.Need-returns
 unfolding bigEndian
@@ -24,4 +15,4 @@ returns c =
     written (step (a .out .now) (a .at) (a .key ∷ []) (t .write-tagged .ensures) (t .before .before .before .before .pre) (λ h. wrote _ _ _ (w .write-bytes .ensures) h))
 
 pub put-view-spec : {M : Type 1} → statement M
-put-view-spec = tie.close (tie.spec write-tagged-requires write-bytes-requires same-length returns)
+put-view-spec = tie.close (tie.spec (λ c κs. search needs) (λ c κs. search needs) (λ c. search needs) returns)

@@ -60,26 +60,11 @@ sized : (c : tie.After-contents-length) → c .contents-length .result ≤ 60000
     c .contents-length .result ≡ length (contentsOf (a .frame) (a .bytes .now)))
 sized c h = let e = counted c in e ∙ capped-within _ (omega arith)
 
-needs-of-requires : tie.Need-needs-of-requires
-needs-of-requires c κs = search needs
-
-refused-requires : tie.Need-refused-requires
-refused-requires c κs = search needs
-
 returns : tie.Need-returns
 returns c =
     let n = c .before .before .before in
     let a = n .before .before .before .args in
     rw (c .refused .ensures) (call-8 (a .frame) (a .bytes .now) (a .out .now) (no-needs (n .needs-of .result) (n .needs-of .ensures .0) (not-true _ (c .before .if1 .taken))))
-
-header-judged-requires : tie.Need-header-judged-requires
-header-judged-requires c κs = search needs
-
-body-judged-requires : tie.Need-body-judged-requires
-body-judged-requires c κs = search needs
-
-refused-requires-2 : tie.Need-refused-requires-2
-refused-requires-2 c κs = search needs
 
 returns-2 : tie.Need-returns-2
 returns-2 c =
@@ -88,9 +73,6 @@ returns-2 c =
     let a = n .before .before .before .args in
     rw (c .refused2 .ensures) (call-4 (a .frame) (a .bytes .now) (a .out .now) (take (n .needs-of .result .count) (n .needs-of .result .keys)) (known j) (sym (not-true _ (c .before .if2 .taken)) ∙ four j))
 
-refused-requires-3 : tie.Need-refused-requires-3
-refused-requires-3 c κs = search needs
-
 returns-3 : tie.Need-returns-3
 returns-3 c =
     let j = c .before .before .before .before .before .before .before in
@@ -98,19 +80,10 @@ returns-3 c =
     let a = n .before .before .before .args in
     rw (c .refused3 .ensures) (call-9 (a .frame) (a .bytes .now) (a .out .now) (take (n .needs-of .result .count) (n .needs-of .result .keys)) (known j) (sym (not-false _ (c .before .before .if2 .left)) ∙ four j) (sym (not-true _ (c .before .if3 .taken)) ∙ nine j))
 
-array-share-prefix-keys : tie.Need-array-share-prefix-keys
-array-share-prefix-keys c = search needs
-
 slice-aggregate-holds-all : tie.Need-slice-aggregate-holds-all
 slice-aggregate-holds-all c =
     let n = asking (c .before .before .before .before .before .before .before .before) in
     sym (length-take-le _ (n .needs-of .result .keys) (n .needs-of .ensures .1))
-
-holds-all-requires : tie.Need-holds-all-requires
-holds-all-requires c κs = search needs
-
-refused-requires-4 : tie.Need-refused-requires-4
-refused-requires-4 c κs = search needs
 
 returns-4 : tie.Need-returns-4
 returns-4 c =
@@ -118,12 +91,6 @@ returns-4 c =
     let n = asking (judging h) in
     let a = n .before .before .before .args in
     rw (c .refused4 .ensures) (call-10 (a .frame) (a .bytes .now) (a .out .now) (take (n .needs-of .result .count) (n .needs-of .result .keys)) (known (judging h)) (whole h) (suited h) (sym (not-true _ (c .before .if4 .taken)) ∙ h .holds-all .ensures))
-
-contents-length-requires : tie.Need-contents-length-requires
-contents-length-requires c κs = search needs
-
-refused-requires-5 : tie.Need-refused-requires-5
-refused-requires-5 c κs = search needs
 
 returns-5 : tie.Need-returns-5
 returns-5 c =
@@ -133,12 +100,6 @@ returns-5 c =
     let a = n .before .before .before .args in
     let e = counted l in
     rw (c .refused5 .ensures) (call-3 (a .frame) (a .bytes .now) (a .out .now) (take (n .needs-of .result .count) (n .needs-of .result .keys)) (known (judging h)) (whole h) (suited h) (there l) (capped-past (length (contentsOf (a .frame) (a .bytes .now))) (omega arith)))
-
-add-if6 : tie.Need-add-if6
-add-if6 c = search needs
-
-refused-requires-6 : tie.Need-refused-requires-6
-refused-requires-6 c κs = search needs
 
 returns-6 : tie.Need-returns-6
 returns-6 c =
@@ -160,9 +121,6 @@ put-frame-requires c κs =
     let f = form-long (contentsOf (a .frame) (a .bytes .now)) in
     ((e, (judging h .before .header-judged .ensures .many, judging h .body-judged .ensures .many)), omega arith)
 
-same-length : tie.Need-same-length
-same-length c = search needs
-
 returns-7 : tie.Need-returns-7
 returns-7 c =
     let l = c .before .before .before .before .before .before in
@@ -179,26 +137,26 @@ pub write-frame-spec : {M : Type 1} → statement M
 write-frame-spec =
     tie.close
     (tie.spec
-    needs-of-requires
-    refused-requires
+    (λ c κs. search needs)
+    (λ c κs. search needs)
     returns
-    header-judged-requires
-    body-judged-requires
-    refused-requires-2
+    (λ c κs. search needs)
+    (λ c κs. search needs)
+    (λ c κs. search needs)
     returns-2
-    refused-requires-3
+    (λ c κs. search needs)
     returns-3
-    array-share-prefix-keys
+    (λ c. search needs)
     slice-aggregate-holds-all
-    holds-all-requires
-    refused-requires-4
+    (λ c κs. search needs)
+    (λ c κs. search needs)
     returns-4
-    contents-length-requires
-    refused-requires-5
+    (λ c κs. search needs)
+    (λ c κs. search needs)
     returns-5
-    add-if6
-    refused-requires-6
+    (λ c. search needs)
+    (λ c κs. search needs)
     returns-6
     put-frame-requires
-    same-length
+    (λ c. search needs)
     returns-7)

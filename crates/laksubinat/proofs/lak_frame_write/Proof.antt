@@ -5,15 +5,9 @@ use borrow.Author.Needs.{needs}
 use Rattle.laksubinat.proofs.lak_frame_write.Statement.{statement}
 use Rattle.laksubinat.proofs.lak_frame_write.Tie as tie
 
-write-frame-requires : tie.Need-write-frame-requires
-write-frame-requires c κs = search needs
-
-same-length : tie.Need-same-length
-same-length c = search needs
-
 returns : tie.Need-returns
 unfolding result
 returns c = ap result (c .before .before .write-frame .ensures)
 
 pub lak-frame-write-spec : {M : Type 1} → statement M
-lak-frame-write-spec = tie.close (tie.spec write-frame-requires same-length returns)
+lak-frame-write-spec = tie.close (tie.spec (λ c κs. search needs) (λ c. search needs) returns)

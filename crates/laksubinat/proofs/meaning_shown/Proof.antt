@@ -4,78 +4,6 @@ use borrow.Author.Needs.{needs}
 use Rattle.laksubinat.proofs.meaning_shown.Statement.{statement}
 use Rattle.laksubinat.proofs.meaning_shown.Tie as tie
 
-enum-told : tie.Need-enum-told
-enum-told c = search needs
-
-held-requires : tie.Need-held-requires
-held-requires c κs = search needs
-
-enum-told-2 : tie.Need-enum-told-2
-enum-told-2 c = search needs
-
-held-requires-2 : tie.Need-held-requires-2
-held-requires-2 c κs = search needs
-
-enum-known-meaning : tie.Need-enum-known-meaning
-enum-known-meaning c = search needs
-
-bit-requires : tie.Need-bit-requires
-bit-requires c κs = search needs
-
-held-requires-3 : tie.Need-held-requires-3
-held-requires-3 c κs = search needs
-
-enum-known-meaning-2 : tie.Need-enum-known-meaning-2
-enum-known-meaning-2 c = search needs
-
-integer-shown-requires : tie.Need-integer-shown-requires
-integer-shown-requires c κs = search needs
-
-enum-known-meaning-3 : tie.Need-enum-known-meaning-3
-enum-known-meaning-3 c = search needs
-
-cast-held : tie.Need-cast-held
-cast-held c = search needs
-
-held-requires-4 : tie.Need-held-requires-4
-held-requires-4 c κs = search needs
-
-enum-known-meaning-4 : tie.Need-enum-known-meaning-4
-enum-known-meaning-4 c = search needs
-
-held-requires-5 : tie.Need-held-requires-5
-held-requires-5 c κs = search needs
-
-enum-known-meaning-5 : tie.Need-enum-known-meaning-5
-enum-known-meaning-5 c = search needs
-
-placed-requires : tie.Need-placed-requires
-placed-requires c κs = search needs
-
-enum-known-meaning-6 : tie.Need-enum-known-meaning-6
-enum-known-meaning-6 c = search needs
-
-placed-requires-2 : tie.Need-placed-requires-2
-placed-requires-2 c κs = search needs
-
-enum-known-meaning-7 : tie.Need-enum-known-meaning-7
-enum-known-meaning-7 c = search needs
-
-placed-requires-3 : tie.Need-placed-requires-3
-placed-requires-3 c κs = search needs
-
-enum-known-meaning-8 : tie.Need-enum-known-meaning-8
-enum-known-meaning-8 c = search needs
-
-placed-requires-4 : tie.Need-placed-requires-4
-placed-requires-4 c κs = search needs
-
-enum-known-meaning-9 : tie.Need-enum-known-meaning-9
-enum-known-meaning-9 c = search needs
-
-placed-requires-5 : tie.Need-placed-requires-5
-placed-requires-5 c κs = search needs
-
 returns : tie.Need-returns
 unfolding meaningShown
 returns c = rw (c .before .enum-told .given .1, c .held .ensures)
@@ -124,30 +52,30 @@ pub meaning-shown-spec : {M : Type 1} → statement M
 meaning-shown-spec =
     tie.close
     (tie.spec
-    enum-told
-    held-requires
-    enum-told-2
-    held-requires-2
-    enum-known-meaning
-    bit-requires
-    held-requires-3
-    enum-known-meaning-2
-    integer-shown-requires
-    enum-known-meaning-3
-    cast-held
-    held-requires-4
-    enum-known-meaning-4
-    held-requires-5
-    enum-known-meaning-5
-    placed-requires
-    enum-known-meaning-6
-    placed-requires-2
-    enum-known-meaning-7
-    placed-requires-3
-    enum-known-meaning-8
-    placed-requires-4
-    enum-known-meaning-9
-    placed-requires-5
+    (λ c. search needs)
+    (λ c κs. search needs)
+    (λ c. search needs)
+    (λ c κs. search needs)
+    (λ c. search needs)
+    (λ c κs. search needs)
+    (λ c κs. search needs)
+    (λ c. search needs)
+    (λ c κs. search needs)
+    (λ c. search needs)
+    (λ c. search needs)
+    (λ c κs. search needs)
+    (λ c. search needs)
+    (λ c κs. search needs)
+    (λ c. search needs)
+    (λ c κs. search needs)
+    (λ c. search needs)
+    (λ c κs. search needs)
+    (λ c. search needs)
+    (λ c κs. search needs)
+    (λ c. search needs)
+    (λ c κs. search needs)
+    (λ c. search needs)
+    (λ c κs. search needs)
     returns
     returns-2
     returns-3

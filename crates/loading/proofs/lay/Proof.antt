@@ -2,8 +2,8 @@
 use mathlib.Core.Path.{_≡_, sym, _∙_}
 use native.Mathlib.Omega.{arith}
 use lib.ListN.{drop}
-use Rattle.values.specs.Value.{shift, value, items}
-use Rattle.values.specs.declared.Read.the-variants.{Whole}
+use Rattle.msgpack_values.specs.Value.{shift, value, items}
+use Rattle.msgpack_values.specs.declared.Read.the-variants.{Whole}
 use Rattle.tuples.specs.Limits.{fieldDepth}
 use Rattle.loading.proofs.Judged.{laid-broken, laid-short, laid-whole}
 use borrow.Author.Needs.{needs}
@@ -13,26 +13,11 @@ use Rattle.loading.proofs.lay.Tie as tie
 read : (k : tie.After-known-told) → (let a = k .before .before .before .before .before .before .before .before .before .before .args in Whole (k .before .end .given .0 .0) ≡ shift (a .at) (items (value fieldDepth) (a .n) (drop (a .at) (a .tuple .now))))
 read k = sym (k .before .end .given .1) ∙ k .before .before .before .before .before .measure .ensures .0
 
-measure-requires : tie.Need-measure-requires
-measure-requires c κs = search needs
-
-enum-known-end : tie.Need-enum-known-end
-enum-known-end c = search needs
-
-enum-told : tie.Need-enum-told
-enum-told c = search needs
-
-same-length : tie.Need-same-length
-same-length c = search needs
-
 returns : tie.Need-returns
 returns c =
     let m = c .before .before .before .before in
     let a = m .before .before .before .before .before .args in
     laid-broken (a .n) (a .at) (a .tuple .now) (m .measure .ensures .1) (sym (c .enum-told .given .1) ∙ m .measure .ensures .0)
-
-same-length-2 : tie.Need-same-length-2
-same-length-2 c = search needs
 
 returns-2 : tie.Need-returns-2
 returns-2 c =
@@ -40,24 +25,6 @@ returns-2 c =
     let m = k .before .before .before .before .before in
     let a = m .before .before .before .before .before .args in
     laid-short (a .n) (a .at) (a .tuple .now) (m .measure .ensures .1) (omega arith) (read k) (c .if1 .taken)
-
-sub-write-bytes : tie.Need-sub-write-bytes
-sub-write-bytes c = search needs
-
-part-write-bytes-start : tie.Need-part-write-bytes-start
-part-write-bytes-start c = search needs
-
-part-write-bytes-end : tie.Need-part-write-bytes-end
-part-write-bytes-end c = search needs
-
-write-bytes-requires : tie.Need-write-bytes-requires
-write-bytes-requires c κs = search needs
-
-same-length-3 : tie.Need-same-length-3
-same-length-3 c = search needs
-
-same-length-4 : tie.Need-same-length-4
-same-length-4 c = search needs
 
 returns-3 : tie.Need-returns-3
 returns-3 c =
@@ -71,17 +38,17 @@ pub lay-spec : {M : Type 1} → statement M
 lay-spec =
     tie.close
     (tie.spec
-    measure-requires
-    enum-known-end
-    enum-told
-    same-length
+    (λ c κs. search needs)
+    (λ c. search needs)
+    (λ c. search needs)
+    (λ c. search needs)
     returns
-    same-length-2
+    (λ c. search needs)
     returns-2
-    sub-write-bytes
-    part-write-bytes-start
-    part-write-bytes-end
-    write-bytes-requires
-    same-length-3
-    same-length-4
+    (λ c. search needs)
+    (λ c. search needs)
+    (λ c. search needs)
+    (λ c κs. search needs)
+    (λ c. search needs)
+    (λ c. search needs)
     returns-3)

@@ -1,9 +1,9 @@
 -- One law for each way back. Assumes nothing.
 use mathlib.Core.Path.{_≡_, sym, _∙_}
 use native.Mathlib.Omega.{arith}
-use Rattle.scalars.specs.Start.{arrayBy}
-use Rattle.scalars.specs.Header.{header}
-use Rattle.scalars.specs.declared.Header.the-variants.{Is}
+use Rattle.msgpack_scalars.specs.Start.{arrayBy}
+use Rattle.msgpack_scalars.specs.Header.{header}
+use Rattle.msgpack_scalars.specs.declared.Header.the-variants.{Is}
 use Rattle.tuples.proofs.Tuple.{array-short}
 use Rattle.loading.proofs.Judged.{header-is, header-other, long-tuple, no-array, many-fields, as-values, no-room, in-room}
 use borrow.Author.Needs.{needs}
@@ -18,15 +18,6 @@ returns c = no-room (c .before .before .before .args .tuple .now) (c .if1 .taken
 
 returns-2 : tie.Need-returns-2
 returns-2 c = let t = c .before .before .before .before .args .tuple .now in in-room t (c .before .if1 .left) (long-tuple t (c .if2 .taken))
-
-header-at-requires : tie.Need-header-at-requires
-header-at-requires c κs = search needs
-
-enum-known-n : tie.Need-enum-known-n
-enum-known-n c = search needs
-
-enum-told : tie.Need-enum-told
-enum-told c = search needs
 
 returns-3 : tie.Need-returns-3
 returns-3 c =
@@ -44,9 +35,6 @@ returns-4 c =
 lay-requires : tie.Need-lay-requires
 lay-requires c κs = let q = array-short _ _ _ (omega arith) (opened (c .before .before .before)) in record { place = q .1; short = omega arith; few = omega arith; room = omega arith; rows = search needs }
 
-same-length : tie.Need-same-length
-same-length c = search needs
-
 returns-5 : tie.Need-returns-5
 returns-5 c =
     let l = c .before .before in
@@ -61,11 +49,11 @@ load-spec =
     (tie.spec
     returns
     returns-2
-    header-at-requires
-    enum-known-n
-    enum-told
+    (λ c κs. search needs)
+    (λ c. search needs)
+    (λ c. search needs)
     returns-3
     returns-4
     lay-requires
-    same-length
+    (λ c. search needs)
     returns-5)

@@ -3,9 +3,9 @@ use mathlib.Core.Path.{_≡_, refl, sym, _∙_}
 use Prim.Native.Nat.{_-_, _≤_}
 use native.Mathlib.Omega.{arith}
 use lib.ListN.{length, drop, length-set}
-use Rattle.values.specs.Value.{shift, value}
-use Rattle.values.specs.declared.Read.the-variants.{Whole}
-use Rattle.values.proofs.Local.{value-good}
+use Rattle.msgpack_values.specs.Value.{shift, value}
+use Rattle.msgpack_values.specs.declared.Read.the-variants.{Whole}
+use Rattle.msgpack_values.proofs.Local.{value-good}
 use Rattle.tuples.specs.Limits.{fieldDepth}
 use Rattle.loading.proofs.Measures.{Sofar, begin, place-after, length-there, next-whole, next-broken, all-whole}
 use borrow.Author.Needs.{needs}
@@ -27,23 +27,11 @@ whole c = sym (c .before .end .given .1) ∙ c .before .before .before .read-val
 loop-holds : tie.Need-loop-holds Inv-loop μ-loop
 loop-holds c = let a = c .before .before .args in (omega arith, refl, begin (value fieldDepth) (a .tuple .now) (a .from) (a .n) (a .lengths .now))
 
-read-value-requires : tie.Need-read-value-requires Inv-loop μ-loop
-read-value-requires c κs = search needs
-
-enum-known-place : tie.Need-enum-known-place Inv-loop μ-loop
-enum-known-place c = search needs
-
-same-length : tie.Need-same-length Inv-loop μ-loop
-same-length c = search needs
-
 returns : tie.Need-returns Inv-loop μ-loop
 returns c =
     let r = c .before .before .before in
     let l = r .before .before in
     next-broken (value-good fieldDepth) (l .loop .inv .2) (omega arith) (omega arith) (sym (c .before .place .given .1) ∙ r .read-value .ensures)
-
-enum-known-end : tie.Need-enum-known-end Inv-loop μ-loop
-enum-known-end c = search needs
 
 sub-lengths : tie.Need-sub-lengths Inv-loop μ-loop
 sub-lengths c = let e = place-after (value-good fieldDepth) (at-loop c .loop .inv .2) (omega arith) (whole c) in omega arith
@@ -54,25 +42,10 @@ cast-lengths c =
     let e = length-there (value-good fieldDepth) (l .loop .inv .2) (omega arith) (whole c) in
     omega (arith, l .before .before .before .pre .1)
 
-mul-lengths : tie.Need-mul-lengths Inv-loop μ-loop
-mul-lengths c = search needs
-
-slice-write-lengths : tie.Need-slice-write-lengths Inv-loop μ-loop
-slice-write-lengths c = search needs
-
-add-i : tie.Need-add-i Inv-loop μ-loop
-add-i c = search needs
-
-loop-less : tie.Need-loop-less Inv-loop μ-loop
-loop-less c = search needs
-
 loop-again : tie.Need-loop-again Inv-loop μ-loop
 loop-again c =
     let l = at-loop c in
     (omega arith, simp length-set (omega arith), next-whole (value-good fieldDepth) (l .loop .inv .2) (omega arith) (omega arith) (whole c))
-
-same-length-2 : tie.Need-same-length-2 Inv-loop μ-loop
-same-length-2 c = search needs
 
 returns-2 : tie.Need-returns-2 Inv-loop μ-loop
 returns-2 c = let l = c .before in all-whole (l .loop .inv .2) (omega arith) (omega arith)
@@ -84,17 +57,17 @@ measure-spec =
     Inv-loop
     μ-loop
     loop-holds
-    read-value-requires
-    enum-known-place
-    same-length
+    (λ c κs. search needs)
+    (λ c. search needs)
+    (λ c. search needs)
     returns
-    enum-known-end
+    (λ c. search needs)
     sub-lengths
     cast-lengths
-    mul-lengths
-    slice-write-lengths
-    add-i
-    loop-less
+    (λ c. search needs)
+    (λ c. search needs)
+    (λ c. search needs)
+    (λ c. search needs)
     loop-again
-    same-length-2
+    (λ c. search needs)
     returns-2)

@@ -14,12 +14,6 @@ returns-2 c = no-part _ _ _ _ _ (omega arith)
 returns-3 : tie.Need-returns-3
 returns-3 c = no-all _ _ _ _ _ (omega arith) (omega arith)
 
-sub-if4 : tie.Need-sub-if4
-sub-if4 c = search needs
-
-sub-if4-2 : tie.Need-sub-if4-2
-sub-if4-2 c = search needs
-
 returns-4 : tie.Need-returns-4
 returns-4 c = no-room _ _ _ _ _ (omega arith) (omega arith) (omega arith)
 
@@ -28,4 +22,4 @@ returns-5 c = fit _ _ _ _ _ (record { part = omega arith; all = omega arith; aft
 
 pub fitting-spec : {M : Type 1} → statement M
 fitting-spec =
-    tie.close (tie.spec returns returns-2 returns-3 sub-if4 sub-if4-2 returns-4 returns-5)
+    tie.close (tie.spec returns returns-2 returns-3 (λ c. search needs) (λ c. search needs) returns-4 returns-5)

@@ -11,9 +11,6 @@ use Rattle.moves.proofs.splice_bytes.Tie as tie
 room : (c : tie.Else1) → (let a = c .before .before .before .before .args in Room (length (a .s .now)) (a .total) (a .at) (a .gone) (length (a .piece .now)))
 room c = fitted _ _ _ _ _ (sym (c .before .fitting .ensures) ∙ not-false _ (c .if1 .left))
 
-fitting-requires : tie.Need-fitting-requires
-fitting-requires c κs = search needs
-
 returns : tie.Need-returns
 returns c = unchanged _ _ _ _ _ (sym (c .before .fitting .ensures) ∙ not-true _ (c .if1 .taken))
 
@@ -29,12 +26,6 @@ sub-move-bytes c = let r = room (c .before) in omega arith
 move-bytes-requires : tie.Need-move-bytes-requires
 move-bytes-requires c κs = let r = room (c .before) in omega arith
 
-write-bytes-requires : tie.Need-write-bytes-requires
-write-bytes-requires c κs = search needs
-
-same-length : tie.Need-same-length
-same-length c = search needs
-
 returns-2 : tie.Need-returns-2
 returns-2 c =
     let w = c .before .before in
@@ -47,12 +38,12 @@ pub splice-bytes-spec : {M : Type 1} → statement M
 splice-bytes-spec =
     tie.close
     (tie.spec
-    fitting-requires
+    (λ c κs. search needs)
     returns
     add-rest
     add-move-bytes
     sub-move-bytes
     move-bytes-requires
-    write-bytes-requires
-    same-length
+    (λ c κs. search needs)
+    (λ c. search needs)
     returns-2)

@@ -11,9 +11,6 @@ use Rattle.moves.proofs.splice_lengths.Tie as tie
 room : (c : tie.Else1) → (let a = c .before .before .before .before .args in Room (length (a .s .now)) (a .total) (a .at) (a .gone) (length (a .piece .now)))
 room c = fitted _ _ _ _ _ (sym (c .before .fitting .ensures) ∙ not-false _ (c .if1 .left))
 
-fitting-requires : tie.Need-fitting-requires
-fitting-requires c κs = search needs
-
 returns : tie.Need-returns
 returns c = unchanged _ _ _ _ _ (sym (c .before .fitting .ensures) ∙ not-true _ (c .if1 .taken))
 
@@ -32,9 +29,6 @@ move-lengths-requires c κs = let r = room (c .before) in omega arith
 copy-lengths-requires : tie.Need-copy-lengths-requires
 copy-lengths-requires c κs = let r = room (c .before .before .before .before .before) in omega arith
 
-same-length : tie.Need-same-length
-same-length c = search needs
-
 returns-2 : tie.Need-returns-2
 returns-2 c =
     let w = c .before .before in
@@ -47,12 +41,12 @@ pub splice-lengths-spec : {M : Type 1} → statement M
 splice-lengths-spec =
     tie.close
     (tie.spec
-    fitting-requires
+    (λ c κs. search needs)
     returns
     add-rest
     add-move-lengths
     sub-move-lengths
     move-lengths-requires
     copy-lengths-requires
-    same-length
+    (λ c. search needs)
     returns-2)

@@ -1,7 +1,7 @@
 -- What was read is what the definition gets; a number of one byte is told by it. Assumes nothing.
 use mathlib.Core.Path.{sym, _∙_}
 use native.Mathlib.Omega.{arith}
-use Rattle.scalars.proofs.Short.{integer-past, integer-small}
+use Rattle.msgpack_scalars.proofs.Short.{integer-past, integer-small}
 use Rattle.parts.proofs.Reading.{integer-at}
 use borrow.Author.Needs.{needs}
 use Rattle.numbers.proofs.any_integer.Statement.{statement}
@@ -12,31 +12,10 @@ returns c =
     let a = c .before .before .args in
     integer-at (a .s .now) (a .at) _ (integer-past (a .s .now) (a .at) (c .if1 .taken))
 
-shared-slice-read-b : tie.Need-shared-slice-read-b
-shared-slice-read-b c = search needs
-
-cast-t10 : tie.Need-cast-t10
-cast-t10 c = search needs
-
-add-t12 : tie.Need-add-t12
-add-t12 c = search needs
-
 returns-2 : tie.Need-returns-2
 returns-2 c =
     let a = c .before .before .before .before .args in
     integer-at (a .s .now) (a .at) _ (integer-small (a .s .now) (a .at) (omega (arith, c .before .before .if1 .left)) (c .if2 .taken))
-
-integer-at-requires : tie.Need-integer-at-requires
-integer-at-requires c κs = search needs
-
-enum-known-z : tie.Need-enum-known-z
-enum-known-z c = search needs
-
-enum-told : tie.Need-enum-told
-enum-told c = search needs
-
-enum-told-2 : tie.Need-enum-told-2
-enum-told-2 c = search needs
 
 returns-3 : tie.Need-returns-3
 returns-3 c =
@@ -58,14 +37,14 @@ any-integer-spec =
     tie.close
     (tie.spec
     returns
-    shared-slice-read-b
-    cast-t10
-    add-t12
+    (λ c. search needs)
+    (λ c. search needs)
+    (λ c. search needs)
     returns-2
-    integer-at-requires
-    enum-known-z
-    enum-told
-    enum-told-2
+    (λ c κs. search needs)
+    (λ c. search needs)
+    (λ c. search needs)
+    (λ c. search needs)
     returns-3
     returns-4
     returns-5)

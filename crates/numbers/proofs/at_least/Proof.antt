@@ -5,25 +5,10 @@ use borrow.Author.Needs.{needs}
 use Rattle.numbers.proofs.at_least.Statement.{statement}
 use Rattle.numbers.proofs.at_least.Tie as tie
 
-any-integer-requires : tie.Need-any-integer-requires
-any-integer-requires c κs = search needs
-
-enum-known-z : tie.Need-enum-known-z
-enum-known-z c = search needs
-
-enum-told : tie.Need-enum-told
-enum-told c = search needs
-
 returns : tie.Need-returns
 returns c =
     let a = c .before .before .before .before .args in
     Steps.least-none (a .s .now) (drop (a .at) (a .s .now)) (c .before .before .any-integer .ensures) (a .low) (c .enum-told .given .1)
-
-enum-known-z-2 : tie.Need-enum-known-z-2
-enum-known-z-2 c = search needs
-
-enum-told-2 : tie.Need-enum-told-2
-enum-told-2 c = search needs
 
 returns-2 : tie.Need-returns-2
 returns-2 c =
@@ -44,12 +29,12 @@ pub at-least-spec : {M : Type 1} → statement M
 at-least-spec =
     tie.close
     (tie.spec
-    any-integer-requires
-    enum-known-z
-    enum-told
+    (λ c κs. search needs)
+    (λ c. search needs)
+    (λ c. search needs)
     returns
-    enum-known-z-2
-    enum-told-2
+    (λ c. search needs)
+    (λ c. search needs)
     returns-2
     returns-3
     returns-4)

@@ -4,12 +4,6 @@ use borrow.Author.Needs.{needs}
 use Rattle.numbers.proofs.field_of.Statement.{statement}
 use Rattle.numbers.proofs.field_of.Tie as tie
 
-enum-known-number : tie.Need-enum-known-number
-enum-known-number c = search needs
-
-enum-told : tie.Need-enum-told
-enum-told c = search needs
-
 returns : tie.Need-returns
 returns c = Steps.field-at (c .before .before .before .before .args .base) (c .before .before .number .given .1) (c .if1 .taken)
 
@@ -20,4 +14,4 @@ returns-3 : tie.Need-returns-3
 returns-3 c = Steps.field-below (c .before .before .args .base) (c .enum-told .given .1)
 
 pub field-of-spec : {M : Type 1} → statement M
-field-of-spec = tie.close (tie.spec enum-known-number enum-told returns returns-2 returns-3)
+field-of-spec = tie.close (tie.spec (λ c. search needs) (λ c. search needs) returns returns-2 returns-3)

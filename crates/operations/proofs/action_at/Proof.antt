@@ -6,15 +6,9 @@ use borrow.Author.Needs.{needs}
 use Rattle.operations.proofs.action_at.Statement.{statement}
 use Rattle.operations.proofs.action_at.Tie as tie
 
-three-at-requires : tie.Need-three-at-requires
-three-at-requires c κs = search needs
-
 returns : tie.Need-returns
 unfolding actionOf
 returns c = rw (c .before .if1 .taken) (c .three-at .ensures)
-
-five-at-requires : tie.Need-five-at-requires
-five-at-requires c κs = search needs
 
 returns-2 : tie.Need-returns-2
 unfolding actionOf
@@ -27,4 +21,4 @@ returns-3 c =
 
 pub action-at-spec : {M : Type 1} → statement M
 action-at-spec =
-    tie.close (tie.spec three-at-requires returns five-at-requires returns-2 returns-3)
+    tie.close (tie.spec (λ c κs. search needs) returns (λ c κs. search needs) returns-2 returns-3)

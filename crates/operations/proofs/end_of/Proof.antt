@@ -5,36 +5,6 @@ use borrow.Author.Needs.{needs}
 use Rattle.operations.proofs.end_of.Statement.{statement}
 use Rattle.operations.proofs.end_of.Tie as tie
 
-enum-known-action : tie.Need-enum-known-action
-enum-known-action c = search needs
-
-enum-known-action-2 : tie.Need-enum-known-action-2
-enum-known-action-2 c = search needs
-
-enum-known-action-3 : tie.Need-enum-known-action-3
-enum-known-action-3 c = search needs
-
-enum-known-action-4 : tie.Need-enum-known-action-4
-enum-known-action-4 c = search needs
-
-enum-known-action-5 : tie.Need-enum-known-action-5
-enum-known-action-5 c = search needs
-
-enum-known-action-6 : tie.Need-enum-known-action-6
-enum-known-action-6 c = search needs
-
-enum-known-action-7 : tie.Need-enum-known-action-7
-enum-known-action-7 c = search needs
-
-enum-known-action-8 : tie.Need-enum-known-action-8
-enum-known-action-8 c = search needs
-
-enum-known-action-9 : tie.Need-enum-known-action-9
-enum-known-action-9 c = search needs
-
-enum-told : tie.Need-enum-told
-enum-told c = search needs
-
 returns : tie.Need-returns
 returns c = ap endOf (sym (c .before .action .given .1))
 
@@ -69,16 +39,16 @@ pub end-of-spec : {M : Type 1} → statement M
 end-of-spec =
     tie.close
     (tie.spec
-    enum-known-action
-    enum-known-action-2
-    enum-known-action-3
-    enum-known-action-4
-    enum-known-action-5
-    enum-known-action-6
-    enum-known-action-7
-    enum-known-action-8
-    enum-known-action-9
-    enum-told
+    (λ c. search needs)
+    (λ c. search needs)
+    (λ c. search needs)
+    (λ c. search needs)
+    (λ c. search needs)
+    (λ c. search needs)
+    (λ c. search needs)
+    (λ c. search needs)
+    (λ c. search needs)
+    (λ c. search needs)
     returns
     returns-2
     returns-3

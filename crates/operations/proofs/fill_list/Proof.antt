@@ -19,15 +19,6 @@ abbrev μ-loop : tie.MeasureT-loop
 loop-holds : tie.Need-loop-holds Inv-loop μ-loop
 loop-holds c = refl
 
-operation-end-requires : tie.Need-operation-end-requires Inv-loop μ-loop
-operation-end-requires c κs = search needs
-
-enum-known-end : tie.Need-enum-known-end Inv-loop μ-loop
-enum-known-end c = search needs
-
-enum-told : tie.Need-enum-told Inv-loop μ-loop
-enum-told c = search needs
-
 returns : tie.Need-returns Inv-loop μ-loop
 returns c =
     let o = c .before .before .before .before in
@@ -36,12 +27,6 @@ returns c =
     let e : o .loop .left ≡ suc (o .loop .left - 1) = omega arith in
     operations-bad (a .base) (o .loop .left - 1) l (o .loop .at) (c .before .before .operation-end .ensures) (c .enum-told .given .1)
     ∙ ap (λ (n : ℕ). present (operations (a .base) n (drop (o .loop .at) l))) (sym e) ∙ o .loop .inv
-
-sub-left : tie.Need-sub-left Inv-loop μ-loop
-sub-left c = omega arith
-
-loop-less : tie.Need-loop-less Inv-loop μ-loop
-loop-less c = omega arith
 
 loop-again : tie.Need-loop-again Inv-loop μ-loop
 loop-again c =
@@ -67,11 +52,11 @@ fill-list-spec =
     Inv-loop
     μ-loop
     loop-holds
-    operation-end-requires
-    enum-known-end
-    enum-told
+    (λ c κs. search needs)
+    (λ c. search needs)
+    (λ c. search needs)
     returns
-    sub-left
-    loop-less
+    (λ c. omega arith)
+    (λ c. omega arith)
     loop-again
     returns-2)

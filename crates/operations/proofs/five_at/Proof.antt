@@ -10,42 +10,15 @@ returns c =
     let a = c .before .before .args in
     (Actions.five-other (a .base) (a .mark) (drop (a .at) (a .list .now)) (c .if1 .taken), tt)
 
-position-at-requires : tie.Need-position-at-requires
-position-at-requires c κs = search needs
-
-enum-known-position : tie.Need-enum-known-position
-enum-known-position c = search needs
-
-enum-told : tie.Need-enum-told
-enum-told c = search needs
-
 returns-2 : tie.Need-returns-2
 returns-2 c =
     let a = c .before .before .before .before .before .args in
     rw (c .before .before .before .if1 .left) (Actions.five-unplaced (a .list .now) (drop (a .at) (a .list .now)) (a .base) (c .before .before .position-at .ensures) (c .enum-told .given .1))
 
-at-least-requires : tie.Need-at-least-requires
-at-least-requires c κs = search needs
-
-enum-known-count : tie.Need-enum-known-count
-enum-known-count c = search needs
-
-enum-told-2 : tie.Need-enum-told-2
-enum-told-2 c = search needs
-
 returns-3 : tie.Need-returns-3
 returns-3 c =
     let a = c .before .before .before .before .before .before .before .before .before .args in
     rw (c .before .before .before .before .before .before .before .if1 .left) (Actions.five-uncounted (a .list .now) (drop (a .at) (a .list .now)) (a .base) (c .before .before .before .before .before .before .position-at .ensures) (c .before .before .before .before .position .given .1) (c .before .before .at-least .ensures) (c .enum-told2 .given .1))
-
-string-at-requires : tie.Need-string-at-requires
-string-at-requires c κs = search needs
-
-enum-known-start : tie.Need-enum-known-start
-enum-known-start c = search needs
-
-enum-told-3 : tie.Need-enum-told-3
-enum-told-3 c = search needs
 
 returns-4 : tie.Need-returns-4
 returns-4 c =
@@ -62,16 +35,16 @@ five-at-spec =
     tie.close
     (tie.spec
     returns
-    position-at-requires
-    enum-known-position
-    enum-told
+    (λ c κs. search needs)
+    (λ c. search needs)
+    (λ c. search needs)
     returns-2
-    at-least-requires
-    enum-known-count
-    enum-told-2
+    (λ c κs. search needs)
+    (λ c. search needs)
+    (λ c. search needs)
     returns-3
-    string-at-requires
-    enum-known-start
-    enum-told-3
+    (λ c κs. search needs)
+    (λ c. search needs)
+    (λ c. search needs)
     returns-4
     returns-5)

@@ -14,15 +14,6 @@ returns-2 c =
     let a = c .before .before .before .args in
     Listing.long-refused (a .base) (a .list .now) (c .if2 .taken)
 
-count-at-requires : tie.Need-count-at-requires
-count-at-requires c κs = search needs
-
-enum-known-n : tie.Need-enum-known-n
-enum-known-n c = search needs
-
-enum-told : tie.Need-enum-told
-enum-told c = search needs
-
 returns-3 : tie.Need-returns-3
 returns-3 c =
     let n = c .before .before in
@@ -47,9 +38,9 @@ front-of-spec =
     (tie.spec
     returns
     returns-2
-    count-at-requires
-    enum-known-n
-    enum-told
+    (λ c κs. search needs)
+    (λ c. search needs)
+    (λ c. search needs)
     returns-3
     returns-4
     returns-5)

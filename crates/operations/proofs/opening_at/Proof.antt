@@ -5,42 +5,15 @@ use borrow.Author.Needs.{needs}
 use Rattle.operations.proofs.opening_at.Statement.{statement}
 use Rattle.operations.proofs.opening_at.Tie as tie
 
-count-at-requires : tie.Need-count-at-requires
-count-at-requires c κs = search needs
-
-enum-known-count : tie.Need-enum-known-count
-enum-known-count c = search needs
-
-enum-told : tie.Need-enum-told
-enum-told c = search needs
-
 returns : tie.Need-returns
 returns c =
     let a = c .before .before .before .before .args in
     Opening.opening-uncounted (a .list .now) (drop (a .at) (a .list .now)) (c .before .before .count-at .ensures) (c .enum-told .given .1)
 
-mark-at-requires : tie.Need-mark-at-requires
-mark-at-requires c κs = search needs
-
-enum-known-mark : tie.Need-enum-known-mark
-enum-known-mark c = search needs
-
-enum-told-2 : tie.Need-enum-told-2
-enum-told-2 c = search needs
-
 returns-2 : tie.Need-returns-2
 returns-2 c =
     let a = c .before .before .before .before .before .before .before .before .args in
     Opening.opening-unmarked (a .list .now) (drop (a .at) (a .list .now)) (c .before .before .before .before .before .before .count-at .ensures) (c .before .before .before .before .count .given .1) (c .before .before .mark-at .ensures) (c .enum-told2 .given .1)
-
-any-integer-requires : tie.Need-any-integer-requires
-any-integer-requires c κs = search needs
-
-enum-known-number : tie.Need-enum-known-number
-enum-known-number c = search needs
-
-enum-told-3 : tie.Need-enum-told-3
-enum-told-3 c = search needs
 
 returns-3 : tie.Need-returns-3
 returns-3 c =
@@ -56,16 +29,16 @@ pub opening-at-spec : {M : Type 1} → statement M
 opening-at-spec =
     tie.close
     (tie.spec
-    count-at-requires
-    enum-known-count
-    enum-told
+    (λ c κs. search needs)
+    (λ c. search needs)
+    (λ c. search needs)
     returns
-    mark-at-requires
-    enum-known-mark
-    enum-told-2
+    (λ c κs. search needs)
+    (λ c. search needs)
+    (λ c. search needs)
     returns-2
-    any-integer-requires
-    enum-known-number
-    enum-told-3
+    (λ c κs. search needs)
+    (λ c. search needs)
+    (λ c. search needs)
     returns-3
     returns-4)

@@ -8,25 +8,10 @@ use borrow.Author.Needs.{needs}
 use Rattle.operations.proofs.operation_end.Statement.{statement}
 use Rattle.operations.proofs.operation_end.Tie as tie
 
-opening-at-requires : tie.Need-opening-at-requires
-opening-at-requires c κs = search needs
-
-enum-known-count : tie.Need-enum-known-count
-enum-known-count c = search needs
-
-enum-told : tie.Need-enum-told
-enum-told c = search needs
-
 returns : tie.Need-returns
 returns c =
     let a = c .before .before .before .before .args in
     ap restOf (operation-none (a .list .now) (drop (a .at) (a .list .now)) (a .base) (c .before .before .opening-at .ensures) (c .enum-told .given .1))
-
-action-at-requires : tie.Need-action-at-requires
-action-at-requires c κs = search needs
-
-end-of-requires : tie.Need-end-of-requires
-end-of-requires c κs = search needs
 
 returns-2 : tie.Need-returns-2
 returns-2 c =
@@ -40,10 +25,10 @@ pub operation-end-spec : {M : Type 1} → statement M
 operation-end-spec =
     tie.close
     (tie.spec
-    opening-at-requires
-    enum-known-count
-    enum-told
+    (λ c κs. search needs)
+    (λ c. search needs)
+    (λ c. search needs)
     returns
-    action-at-requires
-    end-of-requires
+    (λ c κs. search needs)
+    (λ c κs. search needs)
     returns-2)

@@ -50,78 +50,6 @@ remove-arm : (c : tie.After-at-least4) {x : Natural} → c .at-least4 .result �
 unfolding three
 remove-arm c q = rw (c .before .match .keys8) (natural-action _ _ Remove remove (λ _ _ h. (refl, h)) (atLeast 1) (c .at-least4 .ensures) q)
 
-any-integer-requires : tie.Need-any-integer-requires
-any-integer-requires c κs = search needs
-
-enum-known-z : tie.Need-enum-known-z
-enum-known-z c = search needs
-
-enum-told : tie.Need-enum-told
-enum-told c = search needs
-
-any-integer-requires-2 : tie.Need-any-integer-requires-2
-any-integer-requires-2 c κs = search needs
-
-enum-known-z-2 : tie.Need-enum-known-z-2
-enum-known-z-2 c = search needs
-
-enum-told-2 : tie.Need-enum-told-2
-enum-told-2 c = search needs
-
-at-least-requires : tie.Need-at-least-requires
-at-least-requires c κs = search needs
-
-enum-known-n : tie.Need-enum-known-n
-enum-known-n c = search needs
-
-enum-told-3 : tie.Need-enum-told-3
-enum-told-3 c = search needs
-
-at-least-requires-2 : tie.Need-at-least-requires-2
-at-least-requires-2 c κs = search needs
-
-enum-known-n-2 : tie.Need-enum-known-n-2
-enum-known-n-2 c = search needs
-
-enum-told-4 : tie.Need-enum-told-4
-enum-told-4 c = search needs
-
-at-least-requires-3 : tie.Need-at-least-requires-3
-at-least-requires-3 c κs = search needs
-
-enum-known-n-3 : tie.Need-enum-known-n-3
-enum-known-n-3 c = search needs
-
-enum-told-5 : tie.Need-enum-told-5
-enum-told-5 c = search needs
-
-any-value-requires : tie.Need-any-value-requires
-any-value-requires c κs = search needs
-
-enum-known-start : tie.Need-enum-known-start
-enum-known-start c = search needs
-
-enum-told-6 : tie.Need-enum-told-6
-enum-told-6 c = search needs
-
-any-value-requires-2 : tie.Need-any-value-requires-2
-any-value-requires-2 c κs = search needs
-
-enum-known-start-2 : tie.Need-enum-known-start-2
-enum-known-start-2 c = search needs
-
-enum-told-7 : tie.Need-enum-told-7
-enum-told-7 c = search needs
-
-at-least-requires-4 : tie.Need-at-least-requires-4
-at-least-requires-4 c κs = search needs
-
-enum-known-n-4 : tie.Need-enum-known-n-4
-enum-known-n-4 c = search needs
-
-enum-told-8 : tie.Need-enum-told-8
-enum-told-8 c = search needs
-
 returns : tie.Need-returns
 returns c = plus-arm (c .before .before .before) (c .before .z .given .1)
 
@@ -179,30 +107,30 @@ pub three-at-spec : {M : Type 1} → statement M
 three-at-spec =
     tie.close
     (tie.spec
-    any-integer-requires
-    enum-known-z
-    enum-told
-    any-integer-requires-2
-    enum-known-z-2
-    enum-told-2
-    at-least-requires
-    enum-known-n
-    enum-told-3
-    at-least-requires-2
-    enum-known-n-2
-    enum-told-4
-    at-least-requires-3
-    enum-known-n-3
-    enum-told-5
-    any-value-requires
-    enum-known-start
-    enum-told-6
-    any-value-requires-2
-    enum-known-start-2
-    enum-told-7
-    at-least-requires-4
-    enum-known-n-4
-    enum-told-8
+    (λ c κs. search needs)
+    (λ c. search needs)
+    (λ c. search needs)
+    (λ c κs. search needs)
+    (λ c. search needs)
+    (λ c. search needs)
+    (λ c κs. search needs)
+    (λ c. search needs)
+    (λ c. search needs)
+    (λ c κs. search needs)
+    (λ c. search needs)
+    (λ c. search needs)
+    (λ c κs. search needs)
+    (λ c. search needs)
+    (λ c. search needs)
+    (λ c κs. search needs)
+    (λ c. search needs)
+    (λ c. search needs)
+    (λ c κs. search needs)
+    (λ c. search needs)
+    (λ c. search needs)
+    (λ c κs. search needs)
+    (λ c. search needs)
+    (λ c. search needs)
     returns
     returns-2
     returns-3

@@ -5,15 +5,6 @@ use borrow.Author.Needs.{needs}
 use Rattle.parts.proofs.any_value.Statement.{statement}
 use Rattle.parts.proofs.any_value.Tie as tie
 
-read-value-requires : tie.Need-read-value-requires
-read-value-requires c κs = search needs
-
-enum-known-end : tie.Need-enum-known-end
-enum-known-end c = search needs
-
-enum-told : tie.Need-enum-told
-enum-told c = search needs
-
 returns : tie.Need-returns
 returns c =
     let a = c .before .before .before .before .before .args in
@@ -26,4 +17,4 @@ returns-2 c =
 
 pub any-value-spec : {M : Type 1} → statement M
 any-value-spec =
-    tie.close (tie.spec read-value-requires enum-known-end enum-told returns returns-2)
+    tie.close (tie.spec (λ c κs. search needs) (λ c. search needs) (λ c. search needs) returns returns-2)

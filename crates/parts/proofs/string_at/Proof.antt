@@ -6,15 +6,6 @@ use borrow.Author.Needs.{needs}
 use Rattle.parts.proofs.string_at.Statement.{statement}
 use Rattle.parts.proofs.string_at.Tie as tie
 
-header-at-requires : tie.Need-header-at-requires
-header-at-requires c κs = search needs
-
-enum-known-n : tie.Need-enum-known-n
-enum-known-n c = search needs
-
-enum-told : tie.Need-enum-told
-enum-told c = search needs
-
 returns : tie.Need-returns
 returns c =
     let a = c .before .before .before .before .args in
@@ -31,9 +22,6 @@ returns-2 c =
     let a = c .before .before .before .before .before .before .args in
     Reading.string-cut (a .s .now) (a .at) _ _ (sym (c .before .before .n .given .1) ∙ c .before .before .before .before .header-at .ensures) (c .if1 .taken)
 
-add-t7 : tie.Need-add-t7
-add-t7 c = search needs
-
 returns-3 : tie.Need-returns-3
 returns-3 c =
     let a = c .before .before .before .before .before .before .args in
@@ -42,4 +30,4 @@ returns-3 c =
 pub string-at-spec : {M : Type 1} → statement M
 string-at-spec =
     tie.close
-    (tie.spec header-at-requires enum-known-n enum-told returns sub-if1 returns-2 add-t7 returns-3)
+    (tie.spec (λ c κs. search needs) (λ c. search needs) (λ c. search needs) returns sub-if1 returns-2 (λ c. search needs) returns-3)

@@ -1,7 +1,7 @@
 -- Each plan is one edit. Assumes nothing.
 use mathlib.Core.Path.{_≡_, sym, ap, _∙_}
 use mathlib.Core.List.{[], _∷_}
-use Rattle.first_bytes.specs.Bytes.{Bytes}
+use Rattle.msgpack_first_bytes.specs.Bytes.{Bytes}
 use Rattle.engine.specs.Held.{edit}
 use Rattle.engine.proofs.Edits.{stopped}
 use Rattle.planning.specs.Plan.{performed}
@@ -15,38 +15,8 @@ use Rattle.planning.proofs.perform.Tie as tie
 step : (o : tie.Start) {p : Planned} → o .args .plan ≡ p → (let a = o .args in performed p (a .list .now) (a .work .now) (a .scratch .now) (a .lengths .now) (a .n) ≡ performed (a .plan) (a .list .now) (a .work .now) (a .scratch .now) (a .lengths .now) (a .n))
 step o e = let a = o .args in sym (ap (λ (p : Planned). performed p (a .list .now) (a .work .now) (a .scratch .now) (a .lengths .now) (a .n)) e)
 
-enum-known-plan : tie.Need-enum-known-plan
-enum-known-plan c = search needs
-
-enum-known-plan-2 : tie.Need-enum-known-plan-2
-enum-known-plan-2 c = search needs
-
-bytes-of-requires : tie.Need-bytes-of-requires
-bytes-of-requires c κs = search needs
-
-put-in-requires : tie.Need-put-in-requires
-put-in-requires c κs = search needs
-
-enum-known-plan-3 : tie.Need-enum-known-plan-3
-enum-known-plan-3 c = search needs
-
-bytes-of-requires-2 : tie.Need-bytes-of-requires-2
-bytes-of-requires-2 c κs = search needs
-
-put-in-requires-2 : tie.Need-put-in-requires-2
-put-in-requires-2 c κs = search needs
-
-enum-known-plan-4 : tie.Need-enum-known-plan-4
-enum-known-plan-4 c = search needs
-
-cut-out-requires : tie.Need-cut-out-requires
-cut-out-requires c κs = search needs
-
 returns : tie.Need-returns
 returns c = stopped (step (c .before .before .before .before .before .before) (c .before .plan .given .1))
-
-same-length : tie.Need-same-length
-same-length c = search needs
 
 returns-2 : tie.Need-returns-2
 returns-2 c =
@@ -56,9 +26,6 @@ returns-2 c =
     let a = o .args in
     left-as (ap (λ (p : Bytes). edit (k .before .plan2 .given .0 .0) 1 (p ∷ []) (a .scratch .now) (a .lengths .now) (a .n)) (p .before .bytes-of .ensures) ∙ step o (k .before .plan2 .given .1)) (p .put-in .ensures)
 
-same-length-2 : tie.Need-same-length-2
-same-length-2 c = search needs
-
 returns-3 : tie.Need-returns-3
 returns-3 c =
     let p = c .before .before in
@@ -66,9 +33,6 @@ returns-3 c =
     let o = k .before .before .before .before .before .before in
     let a = o .args in
     left-as (ap (λ (p : Bytes). edit (k .before .plan3 .given .0 .0) (k .before .plan3 .given .0 .1 .0) (p ∷ []) (a .scratch .now) (a .lengths .now) (a .n)) (p .before .bytes-of2 .ensures) ∙ step o (k .before .plan3 .given .1)) (p .put-in2 .ensures)
-
-same-length-3 : tie.Need-same-length-3
-same-length-3 c = search needs
 
 returns-4 : tie.Need-returns-4
 returns-4 c =
@@ -80,19 +44,19 @@ pub perform-spec : {M : Type 1} → statement M
 perform-spec =
     tie.close
     (tie.spec
-    enum-known-plan
-    enum-known-plan-2
-    bytes-of-requires
-    put-in-requires
-    enum-known-plan-3
-    bytes-of-requires-2
-    put-in-requires-2
-    enum-known-plan-4
-    cut-out-requires
+    (λ c. search needs)
+    (λ c. search needs)
+    (λ c κs. search needs)
+    (λ c κs. search needs)
+    (λ c. search needs)
+    (λ c κs. search needs)
+    (λ c κs. search needs)
+    (λ c. search needs)
+    (λ c κs. search needs)
     returns
-    same-length
+    (λ c. search needs)
     returns-2
-    same-length-2
+    (λ c. search needs)
     returns-3
-    same-length-3
+    (λ c. search needs)
     returns-4)

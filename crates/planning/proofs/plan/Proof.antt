@@ -10,44 +10,11 @@ use Rattle.planning.proofs.plan.Tie as tie
 bytes : (b : tie.After-bytes-of) → (let a = b .before .before .before .before .before .before .before .before .before .before .args in b .bytes-of .result .now ≡ fieldBytes (a .scratch .now) (a .lengths .now) (b .before .before .before .before .field .given .0 .0))
 bytes b = b .bytes-of .ensures ∙ rw (b .before .extent-of .ensures .0, b .before .extent-of .ensures .1)
 
-enum-known-field : tie.Need-enum-known-field
-enum-known-field c = search needs
-
-enum-told : tie.Need-enum-told
-enum-told c = search needs
-
 returns : tie.Need-returns
 returns c = let a = c .before .before .before .before .before .before .args in below-zero (a .action) (a .list .now) (a .scratch .now) (a .lengths .now) (a .n) (a .work .now) (c .enum-told .given .1)
 
-plan-whole-requires : tie.Need-plan-whole-requires
-plan-whole-requires c κs = search needs
-
 returns-2 : tie.Need-returns-2
 returns-2 c = let a = c .before .before .before .before .before .before .before .before .before .args in past-fields (a .action) (a .list .now) (a .scratch .now) (a .lengths .now) (a .n) (a .work .now) (c .before .before .before .field .given .1) (c .before .if1 .taken) (c .plan-whole .ensures)
-
-extent-of-requires : tie.Need-extent-of-requires
-extent-of-requires c κs = search needs
-
-bytes-of-requires : tie.Need-bytes-of-requires
-bytes-of-requires c κs = search needs
-
-alter-requires : tie.Need-alter-requires
-alter-requires c κs = search needs
-
-enum-known-k : tie.Need-enum-known-k
-enum-known-k c = search needs
-
-enum-known-refusal : tie.Need-enum-known-refusal
-enum-known-refusal c = search needs
-
-enum-told-2 : tie.Need-enum-told-2
-enum-told-2 c = search needs
-
-plan-whole-requires-2 : tie.Need-plan-whole-requires-2
-plan-whole-requires-2 c κs = search needs
-
-same-length : tie.Need-same-length
-same-length c = search needs
 
 returns-3 : tie.Need-returns-3
 returns-3 c =
@@ -55,17 +22,11 @@ returns-3 c =
     let a = b .before .before .before .before .before .before .before .before .before .before .args in
     field-altered (a .action) (a .list .now) (a .scratch .now) (a .lengths .now) (a .n) (a .work .now) (b .before .before .before .before .field .given .1) (b .before .before .if1 .left) (bytes b) (c .before .before .before .before .before .alter .ensures) (c .before .k .given .1)
 
-same-length-2 : tie.Need-same-length-2
-same-length-2 c = search needs
-
 returns-4 : tie.Need-returns-4
 returns-4 c =
     let b = c .before .before .before .before .before .before .before in
     let a = b .before .before .before .before .before .before .before .before .before .before .args in
     field-refused (a .action) (a .list .now) (a .scratch .now) (a .lengths .now) (a .n) (a .work .now) (b .before .before .before .before .field .given .1) (b .before .before .if1 .left) (bytes b) (c .before .before .before .before .before .alter .ensures) (c .before .refusal .given .1)
-
-same-length-3 : tie.Need-same-length-3
-same-length-3 c = search needs
 
 returns-5 : tie.Need-returns-5
 returns-5 c =
@@ -77,21 +38,21 @@ pub plan-spec : {M : Type 1} → statement M
 plan-spec =
     tie.close
     (tie.spec
-    enum-known-field
-    enum-told
+    (λ c. search needs)
+    (λ c. search needs)
     returns
-    plan-whole-requires
+    (λ c κs. search needs)
     returns-2
-    extent-of-requires
-    bytes-of-requires
-    alter-requires
-    enum-known-k
-    enum-known-refusal
-    enum-told-2
-    plan-whole-requires-2
-    same-length
+    (λ c κs. search needs)
+    (λ c κs. search needs)
+    (λ c κs. search needs)
+    (λ c. search needs)
+    (λ c. search needs)
+    (λ c. search needs)
+    (λ c κs. search needs)
+    (λ c. search needs)
     returns-3
-    same-length-2
+    (λ c. search needs)
     returns-4
-    same-length-3
+    (λ c. search needs)
     returns-5)

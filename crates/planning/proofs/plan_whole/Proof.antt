@@ -10,45 +10,6 @@ use Rattle.planning.proofs.plan_whole.Tie as tie
 whole : (o : tie.Start) {x : Action} → o .args .action ≡ x → wholly x (o .args .f) (o .args .n) ≡ wholly (o .args .action) (o .args .f) (o .args .n)
 whole o e = sym (ap (λ (x : Action). wholly x (o .args .f) (o .args .n)) e)
 
-enum-known-action : tie.Need-enum-known-action
-enum-known-action c = search needs
-
-assigned-requires : tie.Need-assigned-requires
-assigned-requires c κs = search needs
-
-enum-known-action-2 : tie.Need-enum-known-action-2
-enum-known-action-2 c = search needs
-
-inserted-requires : tie.Need-inserted-requires
-inserted-requires c κs = search needs
-
-enum-known-action-3 : tie.Need-enum-known-action-3
-enum-known-action-3 c = search needs
-
-removed-requires : tie.Need-removed-requires
-removed-requires c κs = search needs
-
-enum-told : tie.Need-enum-told
-enum-told c = search needs
-
-enum-told-2 : tie.Need-enum-told-2
-enum-told-2 c = search needs
-
-enum-told-3 : tie.Need-enum-told-3
-enum-told-3 c = search needs
-
-enum-told-4 : tie.Need-enum-told-4
-enum-told-4 c = search needs
-
-enum-told-5 : tie.Need-enum-told-5
-enum-told-5 c = search needs
-
-enum-told-6 : tie.Need-enum-told-6
-enum-told-6 c = search needs
-
-enum-told-7 : tie.Need-enum-told-7
-enum-told-7 c = search needs
-
 returns : tie.Need-returns
 returns c = c .assigned .ensures ∙ whole (c .before .before .before .before) (c .before .before .action .given .1)
 
@@ -83,19 +44,19 @@ pub plan-whole-spec : {M : Type 1} → statement M
 plan-whole-spec =
     tie.close
     (tie.spec
-    enum-known-action
-    assigned-requires
-    enum-known-action-2
-    inserted-requires
-    enum-known-action-3
-    removed-requires
-    enum-told
-    enum-told-2
-    enum-told-3
-    enum-told-4
-    enum-told-5
-    enum-told-6
-    enum-told-7
+    (λ c. search needs)
+    (λ c κs. search needs)
+    (λ c. search needs)
+    (λ c κs. search needs)
+    (λ c. search needs)
+    (λ c κs. search needs)
+    (λ c. search needs)
+    (λ c. search needs)
+    (λ c. search needs)
+    (λ c. search needs)
+    (λ c. search needs)
+    (λ c. search needs)
+    (λ c. search needs)
     returns
     returns-2
     returns-3

@@ -7,16 +7,10 @@ use borrow.Author.Needs.{needs}
 use Rattle.splicing.proofs.put_string.Statement.{statement}
 use Rattle.splicing.proofs.put_string.Tie as tie
 
-string-fits-requires : tie.Need-string-fits-requires
-string-fits-requires c κs = search needs
-
 returns : tie.Need-returns
 returns c =
     let a = c .before .before .before .before .before .before .args in
     Strings.put-none (a .front .now) (a .middle .now) (a .back .now) (a .work .now) (sym (c .before .string-fits .ensures) ∙ not-true _ (c .if1 .taken))
-
-add-length : tie.Need-add-length
-add-length c = search needs
 
 add-length-2 : tie.Need-add-length-2
 add-length-2 c =
@@ -30,21 +24,6 @@ cast-write-string-header c =
     let h = Strings.short (a .front .now) (a .middle .now) (a .back .now) _ (sym (c .before .before .string-fits .ensures) ∙ not-false _ (c .before .if1 .left)) in
     omega arith
 
-write-string-header-requires : tie.Need-write-string-header-requires
-write-string-header-requires c κs = search needs
-
-write-bytes-requires : tie.Need-write-bytes-requires
-write-bytes-requires c κs = search needs
-
-write-bytes-requires-2 : tie.Need-write-bytes-requires-2
-write-bytes-requires-2 c κs = search needs
-
-write-bytes-requires-3 : tie.Need-write-bytes-requires-3
-write-bytes-requires-3 c κs = search needs
-
-same-length : tie.Need-same-length
-same-length c = search needs
-
 returns-2 : tie.Need-returns-2
 returns-2 c =
     let a = c .before .before .before .before .before .before .before .before .before .before .before .before .before .before .before .before .before .before .before .before .before .before .args in
@@ -55,14 +34,14 @@ pub put-string-spec : {M : Type 1} → statement M
 put-string-spec =
     tie.close
     (tie.spec
-    string-fits-requires
+    (λ c κs. search needs)
     returns
-    add-length
+    (λ c. search needs)
     add-length-2
     cast-write-string-header
-    write-string-header-requires
-    write-bytes-requires
-    write-bytes-requires-2
-    write-bytes-requires-3
-    same-length
+    (λ c κs. search needs)
+    (λ c κs. search needs)
+    (λ c κs. search needs)
+    (λ c κs. search needs)
+    (λ c. search needs)
     returns-2)

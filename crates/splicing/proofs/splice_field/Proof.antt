@@ -7,15 +7,6 @@ use borrow.Author.Needs.{needs}
 use Rattle.splicing.proofs.splice_field.Statement.{statement}
 use Rattle.splicing.proofs.splice_field.Tie as tie
 
-string-at-requires : tie.Need-string-at-requires
-string-at-requires c κs = search needs
-
-enum-known-start : tie.Need-enum-known-start
-enum-known-start c = search needs
-
-enum-told : tie.Need-enum-told
-enum-told c = search needs
-
 returns : tie.Need-returns
 returns c =
     let a = c .before .before .before .before .before .before .args in
@@ -36,21 +27,6 @@ part-s-end c =
     let s = subst (InOrder (c .before .before .before .before .before .before .before .args .field .now)) (c .before .start .given .1) (c .before .before .before .string-at .ensures .1) in
     omega arith
 
-bytes-of-requires : tie.Need-bytes-of-requires
-bytes-of-requires c κs = search needs
-
-bytes-of-requires-2 : tie.Need-bytes-of-requires-2
-bytes-of-requires-2 c κs = search needs
-
-bytes-of-requires-3 : tie.Need-bytes-of-requires-3
-bytes-of-requires-3 c κs = search needs
-
-put-string-requires : tie.Need-put-string-requires
-put-string-requires c κs = search needs
-
-same-length : tie.Need-same-length
-same-length c = search needs
-
 returns-2 : tie.Need-returns-2
 returns-2 c =
     let a = c .before .before .before .before .before .before .before .before .before .before .before .before .before .before .before .args in
@@ -61,16 +37,16 @@ pub splice-field-spec : {M : Type 1} → statement M
 splice-field-spec =
     tie.close
     (tie.spec
-    string-at-requires
-    enum-known-start
-    enum-told
+    (λ c κs. search needs)
+    (λ c. search needs)
+    (λ c. search needs)
     returns
     sub-s
     part-s-start
     part-s-end
-    bytes-of-requires
-    bytes-of-requires-2
-    bytes-of-requires-3
-    put-string-requires
-    same-length
+    (λ c κs. search needs)
+    (λ c κs. search needs)
+    (λ c κs. search needs)
+    (λ c κs. search needs)
+    (λ c. search needs)
     returns-2)

@@ -2,33 +2,21 @@
 use native.Mathlib.Omega.{arith}
 use Prim.Native.Nat.{_+_}
 use lib.ListN.{length}
-use Rattle.writing.proofs.Lengths.{string-long}
+use Rattle.msgpack_writing.proofs.Lengths.{string-long}
 use Rattle.splicing.proofs.Strings as Strings
 use borrow.Author.Needs.{needs}
 use Rattle.splicing.proofs.string_fits.Statement.{statement}
 use Rattle.splicing.proofs.string_fits.Tie as tie
-
-add-rest : tie.Need-add-rest
-add-rest c = search needs
 
 returns : tie.Need-returns
 returns c =
     let a = c .before .before .before .before .args in
     Strings.too-long (a .front .now) (a .middle .now) (a .back .now) (a .room) (omega arith)
 
-add-length : tie.Need-add-length
-add-length c = search needs
-
 returns-2 : tie.Need-returns-2
 returns-2 c =
     let a = c .before .before .before .before .before .args in
     Strings.too-long (a .front .now) (a .middle .now) (a .back .now) (a .room) (c .if2 .taken)
-
-cast-string-header-length : tie.Need-cast-string-header-length
-cast-string-header-length c = search needs
-
-string-header-length-requires : tie.Need-string-header-length-requires
-string-header-length-requires c κs = search needs
 
 add-all : tie.Need-add-all
 add-all c =
@@ -46,11 +34,11 @@ pub string-fits-spec : {M : Type 1} → statement M
 string-fits-spec =
     tie.close
     (tie.spec
-    add-rest
+    (λ c. search needs)
     returns
-    add-length
+    (λ c. search needs)
     returns-2
-    cast-string-header-length
-    string-header-length-requires
+    (λ c. search needs)
+    (λ c κs. search needs)
     add-all
     returns-3)

@@ -6,41 +6,8 @@ use borrow.Author.Needs.{needs}
 use Rattle.sums.proofs.add.Statement.{statement}
 use Rattle.sums.proofs.add.Tie as tie
 
-enum-known-z : tie.Need-enum-known-z
-enum-known-z c = search needs
-
-enum-known-v : tie.Need-enum-known-v
-enum-known-v c = search needs
-
-raised-requires : tie.Need-raised-requires
-raised-requires c κs = search needs
-
-enum-known-v-2 : tie.Need-enum-known-v-2
-enum-known-v-2 c = search needs
-
-mixed-requires : tie.Need-mixed-requires
-mixed-requires c κs = search needs
-
-enum-known-z-2 : tie.Need-enum-known-z-2
-enum-known-z-2 c = search needs
-
-enum-known-v-3 : tie.Need-enum-known-v-3
-enum-known-v-3 c = search needs
-
-mixed-requires-2 : tie.Need-mixed-requires-2
-mixed-requires-2 c κs = search needs
-
-enum-known-v-4 : tie.Need-enum-known-v-4
-enum-known-v-4 c = search needs
-
 returns : tie.Need-returns
 returns c = Signs.below-out _ (omega arith) ∙ Signs.add-down (c .before .before .before .before .before .z2 .given .1) (c .before .before .v4 .given .1)
-
-add-lowered : tie.Need-add-lowered
-add-lowered c = search needs
-
-lowered-requires : tie.Need-lowered-requires
-lowered-requires c κs = search needs
 
 returns-2 : tie.Need-returns-2
 returns-2 c = c .raised .ensures ∙ Signs.add-up (c .before .before .before .before .before .z .given .1) (c .before .before .v .given .1)
@@ -58,18 +25,18 @@ pub add-spec : {M : Type 1} → statement M
 add-spec =
     tie.close
     (tie.spec
-    enum-known-z
-    enum-known-v
-    raised-requires
-    enum-known-v-2
-    mixed-requires
-    enum-known-z-2
-    enum-known-v-3
-    mixed-requires-2
-    enum-known-v-4
+    (λ c. search needs)
+    (λ c. search needs)
+    (λ c κs. search needs)
+    (λ c. search needs)
+    (λ c κs. search needs)
+    (λ c. search needs)
+    (λ c. search needs)
+    (λ c κs. search needs)
+    (λ c. search needs)
     returns
-    add-lowered
-    lowered-requires
+    (λ c. search needs)
+    (λ c κs. search needs)
     returns-2
     returns-3
     returns-4

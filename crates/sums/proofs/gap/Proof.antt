@@ -12,19 +12,10 @@ returns c =
     let a = c .before .args in
     Signs.from-is _ (omega arith) ∙ ap inRange (sym (Signs.gap-up (a .x) (a .y) (c .if1 .taken)))
 
-sub-below : tie.Need-sub-below
-sub-below c = search needs
-
-sub-below-2 : tie.Need-sub-below-2
-sub-below-2 c = search needs
-
-below-requires : tie.Need-below-requires
-below-requires c κs = search needs
-
 returns-2 : tie.Need-returns-2
 returns-2 c =
     let a = c .before .before .args in
     c .below .ensures ∙ ap inRange (sym (Signs.gap-down (a .x) (a .y) (c .before .if1 .left)))
 
 pub gap-spec : {M : Type 1} → statement M
-gap-spec = tie.close (tie.spec returns sub-below sub-below-2 below-requires returns-2)
+gap-spec = tie.close (tie.spec returns (λ c. search needs) (λ c. search needs) (λ c κs. search needs) returns-2)

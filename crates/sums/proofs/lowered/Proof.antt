@@ -11,14 +11,5 @@ returns c = Signs.below-out _ (omega arith)
 returns-2 : tie.Need-returns-2
 returns-2 c = Signs.below-out _ (omega arith)
 
-add-below : tie.Need-add-below
-add-below c = search needs
-
-below-requires : tie.Need-below-requires
-below-requires c κs = search needs
-
-returns-3 : tie.Need-returns-3
-returns-3 c = search needs
-
 pub lowered-spec : {M : Type 1} → statement M
-lowered-spec = tie.close (tie.spec returns returns-2 add-below below-requires returns-3)
+lowered-spec = tie.close (tie.spec returns returns-2 (λ c. search needs) (λ c κs. search needs) (λ c. search needs))

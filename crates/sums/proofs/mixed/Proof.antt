@@ -7,19 +7,10 @@ use borrow.Author.Needs.{needs}
 use Rattle.sums.proofs.mixed.Statement.{statement}
 use Rattle.sums.proofs.mixed.Tie as tie
 
-sub-t4 : tie.Need-sub-t4
-sub-t4 c = search needs
-
-sub-t5 : tie.Need-sub-t5
-sub-t5 c = search needs
-
 returns : tie.Need-returns
 returns c =
     let a = c .before .args in
     Signs.from-is _ (omega arith) ∙ ap inRange (sym (Signs.mixed-up (a .x) (a .m) (c .if1 .taken)))
-
-below-requires : tie.Need-below-requires
-below-requires c κs = search needs
 
 returns-2 : tie.Need-returns-2
 returns-2 c =
@@ -27,4 +18,4 @@ returns-2 c =
     c .below .ensures ∙ ap inRange (sym (Signs.mixed-down (a .x) (a .m) (c .before .if1 .left)))
 
 pub mixed-spec : {M : Type 1} → statement M
-mixed-spec = tie.close (tie.spec sub-t4 sub-t5 returns below-requires returns-2)
+mixed-spec = tie.close (tie.spec (λ c. search needs) (λ c. search needs) returns (λ c κs. search needs) returns-2)

@@ -6,41 +6,8 @@ use borrow.Author.Needs.{needs}
 use Rattle.sums.proofs.subtract.Statement.{statement}
 use Rattle.sums.proofs.subtract.Tie as tie
 
-enum-known-z : tie.Need-enum-known-z
-enum-known-z c = search needs
-
-enum-known-v : tie.Need-enum-known-v
-enum-known-v c = search needs
-
-gap-requires : tie.Need-gap-requires
-gap-requires c κs = search needs
-
-enum-known-v-2 : tie.Need-enum-known-v-2
-enum-known-v-2 c = search needs
-
 returns : tie.Need-returns
 returns c = Signs.from-out _ (omega arith) ∙ Signs.subtract-mixed (c .before .before .before .before .before .z .given .1) (c .before .before .v2 .given .1)
-
-add-raised : tie.Need-add-raised
-add-raised c = search needs
-
-raised-requires : tie.Need-raised-requires
-raised-requires c κs = search needs
-
-enum-known-z-2 : tie.Need-enum-known-z-2
-enum-known-z-2 c = search needs
-
-enum-known-v-3 : tie.Need-enum-known-v-3
-enum-known-v-3 c = search needs
-
-lowered-requires : tie.Need-lowered-requires
-lowered-requires c κs = search needs
-
-enum-known-v-4 : tie.Need-enum-known-v-4
-enum-known-v-4 c = search needs
-
-gap-requires-2 : tie.Need-gap-requires-2
-gap-requires-2 c κs = search needs
 
 returns-2 : tie.Need-returns-2
 returns-2 c = c .gap .ensures ∙ Signs.subtract-up (c .before .before .before .before .before .z .given .1) (c .before .before .v .given .1)
@@ -58,18 +25,18 @@ pub subtract-spec : {M : Type 1} → statement M
 subtract-spec =
     tie.close
     (tie.spec
-    enum-known-z
-    enum-known-v
-    gap-requires
-    enum-known-v-2
+    (λ c. search needs)
+    (λ c. search needs)
+    (λ c κs. search needs)
+    (λ c. search needs)
     returns
-    add-raised
-    raised-requires
-    enum-known-z-2
-    enum-known-v-3
-    lowered-requires
-    enum-known-v-4
-    gap-requires-2
+    (λ c. search needs)
+    (λ c κs. search needs)
+    (λ c. search needs)
+    (λ c. search needs)
+    (λ c κs. search needs)
+    (λ c. search needs)
+    (λ c κs. search needs)
     returns-2
     returns-3
     returns-4

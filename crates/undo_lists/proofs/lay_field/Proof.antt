@@ -9,27 +9,12 @@ use borrow.Author.Needs.{needs}
 use Rattle.undo_lists.proofs.lay_field.Statement.{statement}
 use Rattle.undo_lists.proofs.lay_field.Tie as tie
 
-add-result : tie.Need-add-result
-add-result c = search needs
-
 returns : tie.Need-returns
 returns c =
     let a = c .before .before .before .before .args in
     let x = fieldBytes (a .scratch .now) (a .lengths .now) (a .at) in
     let e = operation-length (a .mark) (a .f) x in
     no-room (operationBytes (a .mark) (a .f) x) (a .bytes) (a .undo .now) (omega arith)
-
-extent-of-requires : tie.Need-extent-of-requires
-extent-of-requires c κs = search needs
-
-bytes-of-requires : tie.Need-bytes-of-requires
-bytes-of-requires c κs = search needs
-
-lay-operation-requires : tie.Need-lay-operation-requires
-lay-operation-requires c κs = search needs
-
-same-length : tie.Need-same-length
-same-length c = search needs
 
 returns-2 : tie.Need-returns-2
 returns-2 c =
@@ -43,10 +28,10 @@ pub lay-field-spec : {M : Type 1} → statement M
 lay-field-spec =
     tie.close
     (tie.spec
-    add-result
+    (λ c. search needs)
     returns
-    extent-of-requires
-    bytes-of-requires
-    lay-operation-requires
-    same-length
+    (λ c κs. search needs)
+    (λ c κs. search needs)
+    (λ c κs. search needs)
+    (λ c. search needs)
     returns-2)

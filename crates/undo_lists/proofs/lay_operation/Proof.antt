@@ -3,9 +3,9 @@ use mathlib.Core.Path.{_≡_}
 use Prim.Native.Nat.{_+_}
 use native.Mathlib.Omega.{arith}
 use lib.ListN.{length}
-use Rattle.first_bytes.specs.Bytes.{Bytes}
-use Rattle.writing.specs.Forms.{unsignedForm}
-use Rattle.writing.proofs.Lengths.{unsigned-long}
+use Rattle.msgpack_first_bytes.specs.Bytes.{Bytes}
+use Rattle.msgpack_writing.specs.Forms.{unsignedForm}
+use Rattle.msgpack_writing.proofs.Lengths.{unsigned-long}
 use Rattle.tuples.specs.Edit.{operationBytes}
 use Rattle.undo_lists.proofs.Piles.{operation-length, operation-written, no-room, with-room}
 use borrow.Author.Needs.{needs}
@@ -18,47 +18,17 @@ operation o = operationBytes (o .args .mark) (o .args .f) (o .args .argument .no
 whole : (o : tie.Start) → length (operation o) ≡ 3 + length (unsignedForm (o .args .f)) + length (o .args .argument .now)
 whole o = operation-length (o .args .mark) (o .args .f) (o .args .argument .now)
 
-unsigned-length-requires : tie.Need-unsigned-length-requires
-unsigned-length-requires c κs = search needs
-
 add-long : tie.Need-add-long
 add-long c = let h = unsigned-long (c .before .before .before .args .f) in omega arith
 
 add-long-2 : tie.Need-add-long-2
 add-long-2 c = let h = unsigned-long (c .before .before .before .args .f) in omega arith
 
-add-result : tie.Need-add-result
-add-result c = search needs
-
 returns : tie.Need-returns
 returns c = let o = c .before .before .before .before in let e = whole o in no-room (operation o) (o .args .bytes) (o .args .undo .now) (omega arith)
 
-sub-room : tie.Need-sub-room
-sub-room c = search needs
-
-add-result-2 : tie.Need-add-result-2
-add-result-2 c = search needs
-
 returns-2 : tie.Need-returns-2
 returns-2 c = let o = c .before .before .before .before .before in let e = whole o in no-room (operation o) (o .args .bytes) (o .args .undo .now) (omega arith)
-
-slice-aggregate-write-bytes : tie.Need-slice-aggregate-write-bytes
-slice-aggregate-write-bytes c = search needs
-
-write-bytes-requires : tie.Need-write-bytes-requires
-write-bytes-requires c κs = search needs
-
-write-unsigned-requires : tie.Need-write-unsigned-requires
-write-unsigned-requires c κs = search needs
-
-write-bytes-requires-2 : tie.Need-write-bytes-requires-2
-write-bytes-requires-2 c κs = search needs
-
-add-result-3 : tie.Need-add-result-3
-add-result-3 c = search needs
-
-same-length : tie.Need-same-length
-same-length c = search needs
 
 returns-3 : tie.Need-returns-3
 returns-3 c =
@@ -75,18 +45,18 @@ pub lay-operation-spec : {M : Type 1} → statement M
 lay-operation-spec =
     tie.close
     (tie.spec
-    unsigned-length-requires
+    (λ c κs. search needs)
     add-long
     add-long-2
-    add-result
+    (λ c. search needs)
     returns
-    sub-room
-    add-result-2
+    (λ c. search needs)
+    (λ c. search needs)
     returns-2
-    slice-aggregate-write-bytes
-    write-bytes-requires
-    write-unsigned-requires
-    write-bytes-requires-2
-    add-result-3
-    same-length
+    (λ c. search needs)
+    (λ c κs. search needs)
+    (λ c κs. search needs)
+    (λ c κs. search needs)
+    (λ c. search needs)
+    (λ c. search needs)
     returns-3)

@@ -18,18 +18,6 @@ abbrev μ-loop : tie.MeasureT-loop
 loop-holds : tie.Need-loop-holds Inv-loop μ-loop
 loop-holds c = let a = c .before .before .before .args in (omega arith, refl, removed-none (a .scratch .now) (a .lengths .now) (a .f) (a .bytes) (a .undo .now))
 
-add-lay-field : tie.Need-add-lay-field Inv-loop μ-loop
-add-lay-field c = omega arith
-
-lay-field-requires : tie.Need-lay-field-requires Inv-loop μ-loop
-lay-field-requires c κs = omega arith
-
-add-i : tie.Need-add-i Inv-loop μ-loop
-add-i c = omega arith
-
-loop-less : tie.Need-loop-less Inv-loop μ-loop
-loop-less c = omega arith
-
 loop-again : tie.Need-loop-again Inv-loop μ-loop
 loop-again c =
     let k = c .before .before in
@@ -39,9 +27,6 @@ loop-again c =
       k .lay-field .kept .0 ∙ l .loop .inv .1,
       removed-turn (a .scratch .now) (a .lengths .now) (a .f) (l .loop .i) (a .bytes) (a .undo .now) (l .loop .inv .1) (l .loop .inv .2) (k .lay-field .ensures),
     )
-
-same-length : tie.Need-same-length Inv-loop μ-loop
-same-length c = omega arith
 
 returns : tie.Need-returns Inv-loop μ-loop
 returns c =
@@ -56,10 +41,10 @@ lay-removed-spec =
     Inv-loop
     μ-loop
     loop-holds
-    add-lay-field
-    lay-field-requires
-    add-i
-    loop-less
+    (λ c. omega arith)
+    (λ c κs. omega arith)
+    (λ c. omega arith)
+    (λ c. omega arith)
     loop-again
-    same-length
+    (λ c. omega arith)
     returns)

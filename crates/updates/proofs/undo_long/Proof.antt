@@ -9,29 +9,8 @@ use borrow.Author.Needs.{needs}
 use Rattle.updates.proofs.undo_long.Statement.{statement}
 use Rattle.updates.proofs.undo_long.Tie as tie
 
-slice-aggregate-undo-in : tie.Need-slice-aggregate-undo-in
-slice-aggregate-undo-in c = search needs
-
-slice-aggregate-undo-in-2 : tie.Need-slice-aggregate-undo-in-2
-slice-aggregate-undo-in-2 c = search needs
-
-slice-aggregate-undo-in-3 : tie.Need-slice-aggregate-undo-in-3
-slice-aggregate-undo-in-3 c = search needs
-
 undo-in-requires : tie.Need-undo-in-requires
 undo-in-requires c κs = (λ h. omega (arith, h), omega arith)
-
-enum-known-answer : tie.Need-enum-known-answer
-enum-known-answer c = search needs
-
-enum-told : tie.Need-enum-told
-enum-told c = search needs
-
-refused-requires : tie.Need-refused-requires
-refused-requires c κs = search needs
-
-same-length : tie.Need-same-length
-same-length c = search needs
 
 returns : tie.Need-returns
 returns c =
@@ -40,9 +19,6 @@ returns c =
     let n = rw (c .before .enum-told .given .1) at (u .undo-in .ensures) in
     seen-undo (a .tuple .now) (a .list .now) (a .index-base) (a .out .now) (n .1 (omega arith) refl) (ap (seen (c .refused .result)) (n .0) ∙ seen-refusal LongUndo 0 (a .out .now) (c .refused .ensures))
 
-same-length-2 : tie.Need-same-length-2
-same-length-2 c = search needs
-
 returns-2 : tie.Need-returns-2
 returns-2 c = rw (c .before .answer .given .1) at (c .before .before .before .before .before .before .before .before .undo-in .ensures)
 
@@ -50,14 +26,14 @@ pub undo-long-spec : {M : Type 1} → statement M
 undo-long-spec =
     tie.close
     (tie.spec
-    slice-aggregate-undo-in
-    slice-aggregate-undo-in-2
-    slice-aggregate-undo-in-3
+    (λ c. search needs)
+    (λ c. search needs)
+    (λ c. search needs)
     undo-in-requires
-    enum-known-answer
-    enum-told
-    refused-requires
-    same-length
+    (λ c. search needs)
+    (λ c. search needs)
+    (λ c κs. search needs)
+    (λ c. search needs)
     returns
-    same-length-2
+    (λ c. search needs)
     returns-2)

@@ -24,36 +24,12 @@ due k =
     let a = j .before .before .before .before .before .before .before .before .before .before .before .before .before .before .args in
     good (a .base) (a .list .now) (j .front-of .ensures) (k .before .count .given .1)
 
-load-requires : tie.Need-load-requires
-load-requires c κs = search needs
-
-enum-known-n : tie.Need-enum-known-n
-enum-known-n c = search needs
-
-enum-told : tie.Need-enum-told
-enum-told c = search needs
-
-same-length : tie.Need-same-length
-same-length c = search needs
-
 returns : tie.Need-returns
 returns c =
     let l = c .before .before .before .before in
     let o = l .before .before .before .before .before .before .before .before in
     let a = o .args in
     bad-tuple (a .tuple .now) (a .list .now) (a .base) (not-loaded (a .tuple .now) (o .pre .0) (l .load .ensures) (c .enum-told .given .1))
-
-front-of-requires : tie.Need-front-of-requires
-front-of-requires c κs = search needs
-
-enum-known-count : tie.Need-enum-known-count
-enum-known-count c = search needs
-
-enum-told-2 : tie.Need-enum-told-2
-enum-told-2 c = search needs
-
-same-length-2 : tie.Need-same-length-2
-same-length-2 c = search needs
 
 returns-2 : tie.Need-returns-2
 returns-2 c =
@@ -70,15 +46,6 @@ run-requires c κs =
 filled-requires : tie.Need-filled-requires
 filled-requires c κs = let r = c .before .before .before .before .before .before in told _ _ _ _ _ _ _ _ (r .run .result) (r .run .ensures)
 
-same-length-3 : tie.Need-same-length-3
-same-length-3 c = search needs
-
-same-length-4 : tie.Need-same-length-4
-same-length-4 c = search needs
-
-same-length-5 : tie.Need-same-length-5
-same-length-5 c = search needs
-
 returns-3 : tie.Need-returns-3
 returns-3 c =
     let r = c .before .before .before .before .before .before .before .before in
@@ -88,15 +55,6 @@ returns-3 c =
     let t = r .run .last .1 .1 .1 .1 in
     carries (a .tuple .now) (a .list .now) (a .base) (begin (a .tuple .now) (a .list .now) (a .base) (f .0) (f .1) (due k) (sym (c .before .filled .ensures) ∙ c .if1 .taken))
     (r .run .result) (t .0) (t .1 .0) (t .1 .1 .1 .1 .0) (r .run .ensures)
-
-same-length-6 : tie.Need-same-length-6
-same-length-6 c = search needs
-
-same-length-7 : tie.Need-same-length-7
-same-length-7 c = search needs
-
-same-length-8 : tie.Need-same-length-8
-same-length-8 c = search needs
 
 returns-4 : tie.Need-returns-4
 returns-4 c =
@@ -109,23 +67,23 @@ pub carry-out-spec : {M : Type 1} → statement M
 carry-out-spec =
     tie.close
     (tie.spec
-    load-requires
-    enum-known-n
-    enum-told
-    same-length
+    (λ c κs. search needs)
+    (λ c. search needs)
+    (λ c. search needs)
+    (λ c. search needs)
     returns
-    front-of-requires
-    enum-known-count
-    enum-told-2
-    same-length-2
+    (λ c κs. search needs)
+    (λ c. search needs)
+    (λ c. search needs)
+    (λ c. search needs)
     returns-2
     run-requires
     filled-requires
-    same-length-3
-    same-length-4
-    same-length-5
+    (λ c. search needs)
+    (λ c. search needs)
+    (λ c. search needs)
     returns-3
-    same-length-6
-    same-length-7
-    same-length-8
+    (λ c. search needs)
+    (λ c. search needs)
+    (λ c. search needs)
     returns-4)

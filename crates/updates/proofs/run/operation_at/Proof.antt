@@ -5,29 +5,8 @@ use borrow.Author.Needs.{needs}
 use Rattle.updates.proofs.run.operation_at.Statement.{statement}
 use Rattle.updates.proofs.run.operation_at.Tie as tie
 
-opening-at-requires : tie.Need-opening-at-requires
-opening-at-requires c κs = search needs
-
-enum-known-count : tie.Need-enum-known-count
-enum-known-count c = search needs
-
-enum-told : tie.Need-enum-told
-enum-told c = search needs
-
 returns : tie.Need-returns
 returns c = let o = c .before .before .before .before in let a = o .args in decode-unopened (a .list .now) (drop (a .at) (a .list .now)) (a .base) (c .before .before .opening-at .ensures) (c .enum-told .given .1)
-
-action-at-requires : tie.Need-action-at-requires
-action-at-requires c κs = search needs
-
-end-of-requires : tie.Need-end-of-requires
-end-of-requires c κs = search needs
-
-enum-known-end : tie.Need-enum-known-end
-enum-known-end c = search needs
-
-enum-told-2 : tie.Need-enum-told-2
-enum-told-2 c = search needs
 
 returns-2 : tie.Need-returns-2
 returns-2 c =
@@ -47,13 +26,13 @@ pub operation-at-spec : {M : Type 1} → statement M
 operation-at-spec =
     tie.close
     (tie.spec
-    opening-at-requires
-    enum-known-count
-    enum-told
+    (λ c κs. search needs)
+    (λ c. search needs)
+    (λ c. search needs)
     returns
-    action-at-requires
-    end-of-requires
-    enum-known-end
-    enum-told-2
+    (λ c κs. search needs)
+    (λ c κs. search needs)
+    (λ c. search needs)
+    (λ c. search needs)
     returns-2
     returns-3)

@@ -9,29 +9,11 @@ use borrow.Author.Needs.{needs}
 use Rattle.updates.proofs.run.prepare.Statement.{statement}
 use Rattle.updates.proofs.run.prepare.Tie as tie
 
-operation-at-requires : tie.Need-operation-at-requires
-operation-at-requires c κs = search needs
-
-enum-known-number : tie.Need-enum-known-number
-enum-known-number c = search needs
-
-enum-told : tie.Need-enum-told
-enum-told c = search needs
-
 returns : tie.Need-returns
 returns c =
     let a = c .before .before .before .before .before .before .before .args in
     let d : Decodes (a .base) (a .list .now) Bad (operation (a .base) (drop (a .at) (a .list .now))) = rw (c .enum-told .given .1) at (c .before .before .operation-at .ensures) in
     prepare-bad (length (a .scratch .now)) (fieldsIn (a .scratch .now) (a .lengths .now) (a .n)) (a .list .now) (a .work .now) (a .at) d
-
-field-of-requires : tie.Need-field-of-requires
-field-of-requires c κs = search needs
-
-plan-requires : tie.Need-plan-requires
-plan-requires c κs = search needs
-
-same-length : tie.Need-same-length
-same-length c = search needs
 
 returns-2 : tie.Need-returns-2
 returns-2 c =
@@ -49,11 +31,11 @@ pub prepare-spec : {M : Type 1} → statement M
 prepare-spec =
     tie.close
     (tie.spec
-    operation-at-requires
-    enum-known-number
-    enum-told
+    (λ c κs. search needs)
+    (λ c. search needs)
+    (λ c. search needs)
     returns
-    field-of-requires
-    plan-requires
-    same-length
+    (λ c κs. search needs)
+    (λ c κs. search needs)
+    (λ c. search needs)
     returns-2)

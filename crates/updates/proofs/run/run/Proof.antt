@@ -31,21 +31,6 @@ step-requires c κs =
     let v = l .loop .inv in
     ((v .3, omega (arith, v .5, v .6, l .before .before .before .before .before .pre .1)), omega (arith, v .2))
 
-enum-known-refusal : tie.Need-enum-known-refusal Inv-loop μ-loop
-enum-known-refusal c = search needs
-
-certain-requires : tie.Need-certain-requires Inv-loop μ-loop
-certain-requires c κs = search needs
-
-same-length : tie.Need-same-length Inv-loop μ-loop
-same-length c = search needs
-
-same-length-2 : tie.Need-same-length-2 Inv-loop μ-loop
-same-length-2 c = search needs
-
-same-length-3 : tie.Need-same-length-3 Inv-loop μ-loop
-same-length-3 c = search needs
-
 returns : tie.Need-returns Inv-loop μ-loop
 returns c =
     let k = c .before .before .before in
@@ -56,26 +41,8 @@ returns c =
     let d : Steps (length (l .loop .scratch)) (Stop (k .refusal .given .0 .0)) (t .step .last .1 .1 .0) (t .step .last .1 .1 .1 .0) (t .step .last .1 .1 .1 .1 .1 .0) (a .list .now) (l .loop .undo) z (operation (a .base) (drop (z .at) (a .list .now))) (fieldsIn (l .loop .scratch) (l .loop .lengths) (z .fields)) = rw (k .refusal .given .1) at (t .step .ensures) in
     (run-stops (l .loop .inv .4) (omega arith) (rw (t .step .kept .1 .1 .0) at (sym (c .before .certain .ensures) ∙ c .if1 .taken)) d, omega arith)
 
-same-length-4 : tie.Need-same-length-4 Inv-loop μ-loop
-same-length-4 c = search needs
-
-same-length-5 : tie.Need-same-length-5 Inv-loop μ-loop
-same-length-5 c = search needs
-
-same-length-6 : tie.Need-same-length-6 Inv-loop μ-loop
-same-length-6 c = search needs
-
 returns-2 : tie.Need-returns-2 Inv-loop μ-loop
 returns-2 c = unsure (c .before .before .before .refusal .given .0 .0) _ (sym (c .before .certain .ensures) ∙ c .if1 .left)
-
-enum-known-next : tie.Need-enum-known-next Inv-loop μ-loop
-enum-known-next c = search needs
-
-add-i : tie.Need-add-i Inv-loop μ-loop
-add-i c = search needs
-
-loop-less : tie.Need-loop-less Inv-loop μ-loop
-loop-less c = search needs
 
 loop-again : tie.Need-loop-again Inv-loop μ-loop
 loop-again c =
@@ -88,15 +55,6 @@ loop-again c =
     let o : Onward (c .before .next .given .0 .0) (t .step .last .1 .1 .0) (t .step .last .1 .1 .1 .0) (t .step .last .1 .1 .1 .1 .1 .0) (a .list .now) (l .loop .undo) z (operation (a .base) (drop (z .at) (a .list .now))) (fieldsIn (l .loop .scratch) (l .loop .lengths) (z .fields)) = rw (c .before .next .given .1) at (t .step .ensures) in
     (omega arith, k .1 .1 .1 .1 .1 .0 ∙ v .1, omega (arith, o .few, v .2), o .fit, run-goes (v .4) (omega arith) o, k .1 .1 .0 ∙ v .5, k .1 .1 .1 .1 .0 ∙ v .6)
 
-same-length-7 : tie.Need-same-length-7 Inv-loop μ-loop
-same-length-7 c = search needs
-
-same-length-8 : tie.Need-same-length-8 Inv-loop μ-loop
-same-length-8 c = search needs
-
-same-length-9 : tie.Need-same-length-9 Inv-loop μ-loop
-same-length-9 c = search needs
-
 returns-3 : tie.Need-returns-3 Inv-loop μ-loop
 returns-3 c = let l = c .before in run-through (l .loop .inv .4) (omega arith) (l .loop .inv .3)
 
@@ -108,21 +66,21 @@ run-spec =
     μ-loop
     loop-holds
     step-requires
-    enum-known-refusal
-    certain-requires
-    same-length
-    same-length-2
-    same-length-3
+    (λ c. search needs)
+    (λ c κs. search needs)
+    (λ c. search needs)
+    (λ c. search needs)
+    (λ c. search needs)
     returns
-    same-length-4
-    same-length-5
-    same-length-6
+    (λ c. search needs)
+    (λ c. search needs)
+    (λ c. search needs)
     returns-2
-    enum-known-next
-    add-i
-    loop-less
+    (λ c. search needs)
+    (λ c. search needs)
+    (λ c. search needs)
     loop-again
-    same-length-7
-    same-length-8
-    same-length-9
+    (λ c. search needs)
+    (λ c. search needs)
+    (λ c. search needs)
     returns-3)

@@ -1,0 +1,68 @@
+-- Two functions to forms are equal on a range where antt computes that they are. Assumes nothing.
+use mathlib.Core.Path.{_≡_, refl, sym, ap, ap₂, _∙_}
+use mathlib.Core.Bool.{Bool, true, false}
+use mathlib.Core.List.{List, [], _∷_}
+use Prim.Native.Nat.{ℕ, _+_, _<_, _≤_}
+use lib.Dec.{T, eqb, eqb→eq}
+use lib.ListN.{getD}
+use Rattle.msgpack_first_bytes.specs.FirstByte.{kindNo}
+use Rattle.msgpack_first_bytes.specs.declared.Kind.{Kind}
+use Rattle.msgpack_first_bytes.specs.declared.Kind.the-variants.{Nil, Boolean, Unsigned, Signed, Float32, Float64, String, Bin, Ext}
+use Rattle.msgpack_first_bytes.specs.declared.Form.{Form}
+use Rattle.msgpack_first_bytes.specs.declared.Form.the-variants.{Unused, Scalar, Array, Map}
+use Rattle.msgpack_first_bytes.proofs.Range.{both, both-left, both-right, all, all-at}
+
+-- a kind from its number
+abbrev kindAt : ℕ → Kind
+kindAt n = getD (Nil ∷ Boolean ∷ Unsigned ∷ Signed ∷ Float32 ∷ Float64 ∷ String ∷ Bin ∷ Ext ∷ []) n Nil
+
+kind-back : (k : Kind) → kindAt (kindNo k) ≡ k
+kind-back Nil = refl
+kind-back Boolean = refl
+kind-back Unsigned = refl
+kind-back Signed = refl
+kind-back Float32 = refl
+kind-back Float64 = refl
+kind-back String = refl
+kind-back Bin = refl
+kind-back Ext = refl
+
+-- a form as four numbers, and back
+abbrev pub formNos : Form → List ℕ
+formNos Unused = 0 ∷ 0 ∷ 0 ∷ 0 ∷ []
+formNos (Scalar k w f) = 1 ∷ kindNo k ∷ w ∷ f ∷ []
+formNos (Array w f) = 2 ∷ 0 ∷ w ∷ f ∷ []
+formNos (Map w f) = 3 ∷ 0 ∷ w ∷ f ∷ []
+
+abbrev formAt : List ℕ → Form
+formAt l =
+    getD
+    (Unused ∷ Scalar (kindAt (getD l 1 0)) (getD l 2 0) (getD l 3 0) ∷ Array (getD l 2 0) (getD l 3 0) ∷ Map (getD l 2 0) (getD l 3 0) ∷ [])
+    (getD l 0 0)
+    Unused
+
+form-back : (h : Form) → formAt (formNos h) ≡ h
+form-back Unused = refl
+form-back (Scalar k w f) = ap (λ (k : Kind). Scalar k w f) (kind-back k)
+form-back (Array w f) = refl
+form-back (Map w f) = refl
+
+abbrev eqList : List ℕ → List ℕ → Bool
+eqList [] [] = true
+eqList [] (y ∷ l) = false
+eqList (x ∷ k) [] = false
+eqList (x ∷ k) (y ∷ l) = both (eqb x y) (eqList k l)
+
+eqList-eq : (k l : List ℕ) → T (eqList k l) → k ≡ l
+eqList-eq [] [] t = refl
+eqList-eq [] (y ∷ l) t = absurd t
+eqList-eq (x ∷ k) [] t = absurd t
+eqList-eq (x ∷ k) (y ∷ l) t = ap₂ _∷_ (eqb→eq x y (both-left (eqb x y) (eqList k l) t)) (eqList-eq k l (both-right (eqb x y) (eqList k l) t))
+
+abbrev sameForm : (ℕ → Form) → (ℕ → Form) → ℕ → Bool
+sameForm f g b = eqList (formNos (f b)) (formNos (g b))
+
+-- f and g give the same form at each of the n numbers from lo
+pub agree : (f g : ℕ → Form) (lo n : ℕ) → T (all (sameForm f g) lo n) → (b : ℕ) → lo ≤ b → b < lo + n → f b ≡ g b
+agree f g lo n t b h k =
+    sym (form-back (f b)) ∙ ap formAt (eqList-eq (formNos (f b)) (formNos (g b)) (all-at (sameForm f g) lo n t b h k)) ∙ form-back (g b)

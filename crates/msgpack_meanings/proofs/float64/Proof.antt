@@ -1,0 +1,18 @@
+-- The float of the bits, a NaN where they are a NaN's. Assumes nothing.
+use mathlib.Core.Path.{sym, ap}
+use lib.Ieee.{Float, binary64, ofBits, div}
+use Rattle.msgpack_meanings.specs.declared.Meaning.the-variants.{Float64}
+use Rattle.msgpack_meanings.proofs.Nans.{allowed, nan-is}
+use borrow.Author.Needs.{needs}
+use Rattle.msgpack_meanings.proofs.float64.Statement.{statement}
+use Rattle.msgpack_meanings.proofs.float64.Tie as tie
+
+float-from-bits-t5 : tie.Need-float-from-bits-t5
+float-from-bits-t5 c = allowed binary64 (c .before .args .bits) (c .if1 .taken)
+
+returns-2 : tie.Need-returns-2
+unfolding div ofBits
+returns-2 c = ap (λ (x : Float). Float64 x (c .before .args .bits)) (sym (nan-is binary64 (c .before .args .bits) (c .if1 .left)))
+
+pub float64-spec : {M : Type 1} → statement M
+float64-spec = tie.close (tie.spec float-from-bits-t5 (λ c. search needs) returns-2)

@@ -1,0 +1,26 @@
+-- A test decides: a rule of what it chooses, shown in each of the two cases. Assumes nothing.
+use mathlib.Core.Path.{_≡_, refl}
+use mathlib.Core.Bool.{Bool, true, false}
+use mathlib.Core.Logic.{_⊎_, inl, inr}
+use Prim.Native.Nat.{ℕ, _<_, _≤_}
+use borrow.Author.Tests.{leb-true, leb-false, ltb-true, ltb-false}
+use lib.Dec.{leb, ltb}
+use Rattle.msgpack_first_bytes.specs.Bytes.{pick}
+
+module _ {A : Type 0} (P : A → Type 0) {x y : A} where
+  by : (t : Bool) → (t ≡ true → P x) → (t ≡ false → P y) → P (pick t x y)
+  by true f g = f refl
+  by false f g = g refl
+
+  pub by-leb : (a b : ℕ) → (a ≤ b → P x) → (b < a → P y) → P (pick (leb a b) x y)
+  by-leb a b f g = by (leb a b) (λ e. f (leb-true a b e)) (λ e. g (leb-false a b e))
+
+  pub by-ltb : (a b : ℕ) → (a < b → P x) → (b ≤ a → P y) → P (pick (ltb a b) x y)
+  by-ltb a b f g = by (ltb a b) (λ e. f (ltb-true a b e)) (λ e. g (ltb-false a b e))
+
+pub either : (a b : ℕ) → (a ≤ b) ⊎ (b < a)
+either a b = go (leb a b) refl
+  where
+    go : (t : Bool) → leb a b ≡ t → (a ≤ b) ⊎ (b < a)
+    go true e = inl (leb-true a b e)
+    go false e = inr (leb-false a b e)
