@@ -15,9 +15,6 @@ use Rattle.answers.proofs.deliver.Tie as tie
 total : (o : tie.Start) → length (arrayHeader (o .args .count) ++ o .args .values .now) ≡ length (arrayHeader (o .args .count)) + length (o .args .values .now)
 total o = length-append (arrayHeader (o .args .count)) (o .args .values .now)
 
-add-length : tie.Need-add-length
-add-length c = let h = array-long (c .before .before .before .args .count) in omega arith
-
 returns : tie.Need-returns
 returns c = let a = c .before .before .before .before .before .args in let n = total (c .before .before .before .before .before) in seen-short (arrayHeader (a .count) ++ a .values .now) (a .out .now) (omega arith) (c .refused .ensures)
 
@@ -35,13 +32,5 @@ returns-2 c =
 
 pub deliver-spec : {M : Type 1} → statement M
 deliver-spec =
-    tie.close
-    (tie.spec
-    (λ c κs. search needs)
-    add-length
-    (λ c κs. search needs)
-    returns
-    (λ c κs. search needs)
-    (λ c κs. search needs)
-    (λ c. search needs)
-    returns-2)
+    tie.close (tie.spec (λ c κs. search needs) (λ c. let h = array-long (c .before .before .before .args .count) in omega arith)
+    (λ c κs. search needs) returns (λ c κs. search needs) (λ c κs. search needs) (λ c. search needs) returns-2)

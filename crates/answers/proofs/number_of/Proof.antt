@@ -5,55 +5,15 @@ use borrow.Author.Needs.{needs}
 use Rattle.answers.proofs.number_of.Statement.{statement}
 use Rattle.answers.proofs.number_of.Tie as tie
 
-returns : tie.Need-returns
-unfolding numberOf
-returns c = sym (ap numberOf (c .enum-told .given .1))
-
-returns-2 : tie.Need-returns-2
-unfolding numberOf
-returns-2 c = sym (ap numberOf (c .enum-told2 .given .1))
-
-returns-3 : tie.Need-returns-3
-unfolding numberOf
-returns-3 c = sym (ap numberOf (c .enum-told3 .given .1))
-
-returns-4 : tie.Need-returns-4
-unfolding numberOf
-returns-4 c = sym (ap numberOf (c .enum-told4 .given .1))
-
-returns-5 : tie.Need-returns-5
-unfolding numberOf
-returns-5 c = sym (ap numberOf (c .enum-told5 .given .1))
-
-returns-6 : tie.Need-returns-6
-unfolding numberOf
-returns-6 c = sym (ap numberOf (c .enum-told6 .given .1))
-
-returns-7 : tie.Need-returns-7
-unfolding numberOf
-returns-7 c = sym (ap numberOf (c .enum-told7 .given .1))
-
-returns-8 : tie.Need-returns-8
-unfolding numberOf
-returns-8 c = sym (ap numberOf (c .enum-told8 .given .1))
-
 pub number-of-spec : {M : Type 1} → statement M
 number-of-spec =
-    tie.close
-    (tie.spec
-    (λ c. search needs)
-    (λ c. search needs)
-    (λ c. search needs)
-    (λ c. search needs)
-    (λ c. search needs)
-    (λ c. search needs)
-    (λ c. search needs)
-    (λ c. search needs)
-    returns
-    returns-2
-    returns-3
-    returns-4
-    returns-5
-    returns-6
-    returns-7
-    returns-8)
+    tie.close (tie.spec (λ c. search needs) (λ c. search needs) (λ c. search needs) (λ c. search needs) (λ c. search needs)
+    (λ c. search needs) (λ c. search needs) (λ c. search needs)
+    (λ c. unfold numberOf in sym (ap numberOf (c .enum-told .given .1)))
+    (λ c. unfold numberOf in sym (ap numberOf (c .enum-told2 .given .1)))
+    (λ c. unfold numberOf in sym (ap numberOf (c .enum-told3 .given .1)))
+    (λ c. unfold numberOf in sym (ap numberOf (c .enum-told4 .given .1)))
+    (λ c. unfold numberOf in sym (ap numberOf (c .enum-told5 .given .1)))
+    (λ c. unfold numberOf in sym (ap numberOf (c .enum-told6 .given .1)))
+    (λ c. unfold numberOf in sym (ap numberOf (c .enum-told7 .given .1)))
+    (λ c. unfold numberOf in sym (ap numberOf (c .enum-told8 .given .1))))

@@ -3,8 +3,6 @@ use borrow.Author.Needs.{needs}
 use Rattle.answers.proofs.refused.Statement.{statement}
 use Rattle.answers.proofs.refused.Tie as tie
 
-returns : tie.Need-returns
-returns c = let a = c .before .args in λ i. record { number = c .number-of .ensures i; operation = a .operation; length = 0 }
-
 pub refused-spec : {M : Type 1} → statement M
-refused-spec = tie.close (tie.spec (λ c κs. search needs) returns)
+refused-spec = tie.close (tie.spec (λ c κs. search needs)
+    (λ c. let a = c .before .args in λ i. record { number = c .number-of .ensures i; operation = a .operation; length = 0 }))

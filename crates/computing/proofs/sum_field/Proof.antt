@@ -11,9 +11,6 @@ returns c =
     let a = c .before .before .before .before .before .args in
     rw (← (Numbers.sum-unsuited (a .minus) (a .v) (a .field .now) (c .before .before .any-integer .ensures) (c .enum-told .given .1))) (refl, refl)
 
-put-sum-requires : tie.Need-put-sum-requires
-put-sum-requires c κs = subst SumInRange (sym (c .before .total .ensures)) (Numbers.sum-in-range _)
-
 returns-2 : tie.Need-returns-2
 returns-2 c =
     let a = c .before .before .before .before .before .before .before .before .before .before .before .args in
@@ -21,13 +18,5 @@ returns-2 c =
 
 pub sum-field-spec : {M : Type 1} → statement M
 sum-field-spec =
-    tie.close
-    (tie.spec
-    (λ c κs. search needs)
-    (λ c. search needs)
-    (λ c. search needs)
-    returns
-    (λ c κs. search needs)
-    put-sum-requires
-    (λ c. search needs)
-    returns-2)
+    tie.close (tie.spec (λ c κs. search needs) (λ c. search needs) (λ c. search needs) returns (λ c κs. search needs)
+    (λ c κs. subst SumInRange (sym (c .before .total .ensures)) (Numbers.sum-in-range _)) (λ c. search needs) returns-2)

@@ -3,21 +3,9 @@ use borrow.Author.Needs.{needs}
 use Rattle.computing.proofs.write_number.Statement.{statement}
 use Rattle.computing.proofs.write_number.Tie as tie
 
-returns : tie.Need-returns
-returns c = rw (c .before .before .before .before .before .z .given .1) (c .before .before .write-unsigned .ensures)
-
-returns-2 : tie.Need-returns-2
-returns-2 c = rw (c .before .before .before .before .before .z2 .given .1) (c .before .before .write-negative .ensures)
-
 pub write-number-spec : {M : Type 1} → statement M
 write-number-spec =
-    tie.close
-    (tie.spec
+    tie.close (tie.spec (λ c. search needs) (λ c κs. search needs) (λ c. search needs) (λ c κs. search needs) (λ c. search needs)
+    (λ c. rw (c .before .before .before .before .before .z .given .1) (c .before .before .write-unsigned .ensures))
     (λ c. search needs)
-    (λ c κs. search needs)
-    (λ c. search needs)
-    (λ c κs. search needs)
-    (λ c. search needs)
-    returns
-    (λ c. search needs)
-    returns-2)
+    (λ c. rw (c .before .before .before .before .before .z2 .given .1) (c .before .before .write-negative .ensures)))

@@ -6,13 +6,7 @@ use borrow.Author.Needs.{needs}
 use Rattle.engine.proofs.cut_out.Statement.{statement}
 use Rattle.engine.proofs.cut_out.Tie as tie
 
-edit-fields-requires : tie.Need-edit-fields-requires
-unfolding sum
-edit-fields-requires c κs = (record { rows = search needs; few = omega arith; whole = refl }, omega arith)
-
-returns : tie.Need-returns
-unfolding cutInto
-returns c = c .before .before .edit-fields .ensures
-
 pub cut-out-spec : {M : Type 1} → statement M
-cut-out-spec = tie.close (tie.spec (λ c. search needs) edit-fields-requires (λ c. search needs) returns)
+cut-out-spec = tie.close (tie.spec (λ c. search needs)
+    (λ c κs. unfold sum in (record { rows = search needs; few = omega arith; whole = refl }, omega arith))
+    (λ c. search needs) (λ c. unfold cutInto in c .before .before .edit-fields .ensures))

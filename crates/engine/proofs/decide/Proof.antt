@@ -21,12 +21,6 @@ found c =
 header : (c : tie.After-array-header-length) → (let a = c .before .before .before .before .before .before .before .before .before .before .args in Long 5 (arrayHeader (a .n - a .gone + a .more)))
 header c = let a = c .before .before .before .before .before .before .before .before .before .before .args in array-long (a .n - a .gone + a .more)
 
-returns : tie.Need-returns
-returns c = c .stopped .ensures ∙ stop-past _ _ _ _ _ _ _ (omega arith)
-
-returns-2 : tie.Need-returns-2
-returns-2 c = c .stopped2 .ensures ∙ stop-past _ _ _ _ _ _ _ (omega arith)
-
 returns-3 : tie.Need-returns-3
 returns-3 c =
     let e = c .before in
@@ -35,24 +29,6 @@ returns-3 c =
 
 returns-4 : tie.Need-returns-4
 returns-4 c = stop-unheld _ _ _ _ _ _ _ (out-of-room _ _ _ (c .before .before .end-after2 .ensures) (c .before .if3 .left) (c .if4 .taken))
-
-add-fields : tie.Need-add-fields
-add-fields c = let s = found (c .before) in omega (arith, s .holding .rows)
-
-returns-5 : tie.Need-returns-5
-returns-5 c = stop-large _ _ _ _ _ _ _ (found (c .before .before)) (c .before .if4 .left) (c .if5 .taken)
-
-sub-gone-bytes : tie.Need-sub-gone-bytes
-sub-gone-bytes c = let s = found (c .before .before) in omega arith
-
-sub-total : tie.Need-sub-total
-sub-total c = let s = found (c .before .before) in omega arith
-
-add-total : tie.Need-add-total
-add-total c = let s = found (c .before .before) in omega arith
-
-sub-if6 : tie.Need-sub-if6
-sub-if6 c = let h = header c in omega arith
 
 returns-6 : tie.Need-returns-6
 returns-6 c =
@@ -73,28 +49,11 @@ returns-8 c =
 
 pub decide-spec : {M : Type 1} → statement M
 decide-spec =
-    tie.close
-    (tie.spec
-    (λ c κs. search needs)
-    returns
-    (λ c κs. search needs)
-    returns-2
-    (λ c κs. search needs)
-    (λ c. search needs)
-    (λ c κs. search needs)
-    (λ c. search needs)
-    (λ c κs. search needs)
-    returns-3
-    returns-4
-    (λ c. search needs)
-    add-fields
-    returns-5
-    sub-gone-bytes
-    sub-total
-    add-total
-    (λ c. search needs)
-    (λ c κs. search needs)
-    sub-if6
-    returns-6
-    returns-7
-    returns-8)
+    tie.close (tie.spec (λ c κs. search needs) (λ c. c .stopped .ensures ∙ stop-past _ _ _ _ _ _ _ (omega arith))
+    (λ c κs. search needs) (λ c. c .stopped2 .ensures ∙ stop-past _ _ _ _ _ _ _ (omega arith)) (λ c κs. search needs)
+    (λ c. search needs) (λ c κs. search needs) (λ c. search needs) (λ c κs. search needs) returns-3 returns-4
+    (λ c. search needs) (λ c. let s = found (c .before) in omega (arith, s .holding .rows))
+    (λ c. stop-large _ _ _ _ _ _ _ (found (c .before .before)) (c .before .if4 .left) (c .if5 .taken))
+    (λ c. let s = found (c .before .before) in omega arith) (λ c. let s = found (c .before .before) in omega arith)
+    (λ c. let s = found (c .before .before) in omega arith) (λ c. search needs) (λ c κs. search needs)
+    (λ c. let h = header c in omega arith) returns-6 returns-7 returns-8)

@@ -16,12 +16,6 @@ Inv-loop lengths i start n end₀ j₀ end j = (j ≤ n) × (end ≡ sum (take j
 abbrev μ-loop : tie.MeasureT-loop
 μ-loop lengths i start n end₀ j₀ end j = n - j
 
-returns : tie.Need-returns Inv-loop μ-loop
-returns c = end-not _ _ (λ h. omega (arith, h .few, c .if1 .taken))
-
-returns-2 : tie.Need-returns-2 Inv-loop μ-loop
-returns-2 c = end-not _ _ (λ h. omega (arith, h .rows, c .if2 .taken))
-
 returns-3 : tie.Need-returns-3 Inv-loop μ-loop
 returns-3 c =
     let o = c .before .before .before in
@@ -33,12 +27,6 @@ loop-holds c =
     let o = c .before .before .before in
     let a = o .args in
     (o .pre .0, end-start (a .lengths .now) (a .i) (o .pre .1) (c .if3 .left), omega (arith, c .if3 .left))
-
-cast-end : tie.Need-cast-end Inv-loop μ-loop
-cast-end c = let b = c .shared-slice-known .given (c .before .before .loop .j) in omega arith
-
-add-end : tie.Need-add-end Inv-loop μ-loop
-add-end c = let b = c .shared-slice-known .given (c .before .before .loop .j) in omega arith
 
 loop-again : tie.Need-loop-again Inv-loop μ-loop
 loop-again c =
@@ -65,24 +53,9 @@ returns-5 c =
 
 pub end-after-spec : {M : Type 1} → statement M
 end-after-spec =
-    tie.close
-    (tie.spec
-    Inv-loop
-    μ-loop
-    (λ c. omega arith)
-    returns
-    (λ c. omega arith)
-    returns-2
-    (λ c. omega arith)
-    returns-3
-    loop-holds
-    (λ c. omega arith)
-    (λ c. omega arith)
-    cast-end
-    add-end
-    (λ c. omega arith)
-    (λ c. omega arith)
-    loop-again
-    (λ c. omega arith)
-    returns-4
-    returns-5)
+    tie.close (tie.spec Inv-loop μ-loop (λ c. omega arith) (λ c. end-not _ _ (λ h. omega (arith, h .few, c .if1 .taken)))
+    (λ c. omega arith) (λ c. end-not _ _ (λ h. omega (arith, h .rows, c .if2 .taken))) (λ c. omega arith) returns-3
+    loop-holds (λ c. omega arith) (λ c. omega arith)
+    (λ c. let b = c .shared-slice-known .given (c .before .before .loop .j) in omega arith)
+    (λ c. let b = c .shared-slice-known .given (c .before .before .loop .j) in omega arith) (λ c. omega arith)
+    (λ c. omega arith) loop-again (λ c. omega arith) returns-4 returns-5)

@@ -4,11 +4,5 @@ use Rattle.engine.proofs.Ends.{end-none}
 use Rattle.engine.proofs.end_of.Statement.{statement}
 use Rattle.engine.proofs.end_of.Tie as tie
 
-end-after-requires : tie.Need-end-after-requires
-end-after-requires c κs = (omega arith, end-none _)
-
-returns : tie.Need-returns
-returns c = c .end-after .ensures
-
 pub end-of-spec : {M : Type 1} → statement M
-end-of-spec = tie.close (tie.spec end-after-requires returns)
+end-of-spec = tie.close (tie.spec (λ c κs. (omega arith, end-none _)) (λ c. c .end-after .ensures))

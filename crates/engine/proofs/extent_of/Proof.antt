@@ -5,11 +5,7 @@ use borrow.Author.Needs.{needs}
 use Rattle.engine.proofs.extent_of.Statement.{statement}
 use Rattle.engine.proofs.extent_of.Tie as tie
 
-returns : tie.Need-returns
-returns c = (c .before .end-of .ensures, end-not _ _ (λ h. omega (arith, h .rows)))
-
-returns-2 : tie.Need-returns-2
-returns-2 c = (c .before .before .end-of .ensures, c .end-after .ensures)
-
 pub extent-of-spec : {M : Type 1} → statement M
-extent-of-spec = tie.close (tie.spec (λ c κs. search needs) (λ c. search needs) returns (λ c. search needs) (λ c κs. search needs) returns-2)
+extent-of-spec = tie.close (tie.spec (λ c κs. search needs) (λ c. search needs)
+    (λ c. (c .before .end-of .ensures, end-not _ _ (λ h. omega (arith, h .rows)))) (λ c. search needs)
+    (λ c κs. search needs) (λ c. (c .before .before .end-of .ensures, c .end-after .ensures)))

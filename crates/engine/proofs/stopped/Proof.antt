@@ -12,11 +12,7 @@ returns c =
     let a = e .before .before .args in
     unreached-unheld _ _ _ (unheld _ _ _ (end-unheld (a .lengths .now) (a .n) (omega (arith, e .end-of .ensures))))
 
-returns-2 : tie.Need-returns-2
-returns-2 c = unreached-unheld _ _ _ (out-of-room _ _ _ (c .before .before .end-of .ensures) (c .before .if1 .left) (c .if2 .taken))
-
-returns-3 : tie.Need-returns-3
-returns-3 c = unreached-held _ _ _ (c .before .before .end-of .ensures) (c .before .if1 .left) (c .if2 .left)
-
 pub stopped-spec : {M : Type 1} → statement M
-stopped-spec = tie.close (tie.spec (λ c κs. search needs) returns returns-2 returns-3)
+stopped-spec = tie.close (tie.spec (λ c κs. search needs) returns
+    (λ c. unreached-unheld _ _ _ (out-of-room _ _ _ (c .before .before .end-of .ensures) (c .before .if1 .left) (c .if2 .taken)))
+    (λ c. unreached-held _ _ _ (c .before .before .end-of .ensures) (c .before .if1 .left) (c .if2 .left)))

@@ -5,16 +5,9 @@ use Rattle.frame_fields.proofs.Laws.{number-is, number-cut, number-othe
 use Rattle.frame_fields.proofs.number_of.Statement.{statement}
 use Rattle.frame_fields.proofs.number_of.Tie as tie
 
-returns : tie.Need-returns
-returns c = number-is _ _ _ (sym (c .before .n .given .1) ∙ c .before .before .before .unsigned-at .ensures)
-
-returns-2 : tie.Need-returns-2
-returns-2 c = number-cut _ (sym (c .enum-told .given .1) ∙ c .before .before .unsigned-at .ensures)
-
-returns-3 : tie.Need-returns-3
-returns-3 c = number-other _ (sym (c .enum-told2 .given .1) ∙ c .before .before .unsigned-at .ensures)
-
 pub number-of-spec : {M : Type 1} → statement M
 number-of-spec =
-    tie.close
-    (tie.spec (λ c κs. search needs) (λ c. search needs) (λ c. search needs) (λ c. search needs) returns returns-2 returns-3)
+    tie.close (tie.spec (λ c κs. search needs) (λ c. search needs) (λ c. search needs) (λ c. search needs)
+    (λ c. number-is _ _ _ (sym (c .before .n .given .1) ∙ c .before .before .before .unsigned-at .ensures))
+    (λ c. number-cut _ (sym (c .enum-told .given .1) ∙ c .before .before .unsigned-at .ensures))
+    (λ c. number-other _ (sym (c .enum-told2 .given .1) ∙ c .before .before .unsigned-at .ensures)))

@@ -4,30 +4,11 @@ use Rattle.frame_fields.proofs.Laws.{view-past, view-rest, view-part}
 use Rattle.frame_fields.proofs.view_of.Statement.{statement}
 use Rattle.frame_fields.proofs.view_of.Tie as tie
 
-returns : tie.Need-returns
-returns c = let a = c .before .before .args in view-past (a .s .now) (a .place) (c .before .if1 .taken)
-
-returns-2 : tie.Need-returns-2
-returns-2 c = let a = c .before .before .before .args in view-rest (a .s .now) (a .place) (c .before .if2 .taken)
-
-returns-3 : tie.Need-returns-3
-returns-3 c = let a = c .before .before .before .args in view-part (a .s .now) (a .place)
-
 pub view-of-spec : {M : Type 1} → statement M
 view-of-spec =
-    tie.close
-    (tie.spec
-    (λ c. search needs)
-    (λ c. search needs)
-    (λ c. search needs)
-    returns
-    (λ c. search needs)
-    (λ c. search needs)
-    (λ c. search needs)
-    (λ c. search needs)
-    returns-2
-    (λ c. search needs)
-    (λ c. search needs)
-    (λ c. search needs)
-    (λ c. search needs)
-    returns-3)
+    tie.close (tie.spec (λ c. search needs) (λ c. search needs) (λ c. search needs)
+    (λ c. let a = c .before .before .args in view-past (a .s .now) (a .place) (c .before .if1 .taken)) (λ c. search needs)
+    (λ c. search needs) (λ c. search needs) (λ c. search needs)
+    (λ c. let a = c .before .before .before .args in view-rest (a .s .now) (a .place) (c .before .if2 .taken))
+    (λ c. search needs) (λ c. search needs) (λ c. search needs) (λ c. search needs)
+    (λ c. let a = c .before .before .before .args in view-part (a .s .now) (a .place)))

@@ -5,14 +5,6 @@ use borrow.Author.Needs.{needs}
 use Rattle.frame_items.proofs.pair_length.Statement.{statement}
 use Rattle.frame_items.proofs.pair_length.Tie as tie
 
-returns : tie.Need-returns
-unfolding heldOf encoded pairLength capped
-returns c = rw (c .enum-told .given .1)
-
-returns-2 : tie.Need-returns-2
-unfolding heldOf encoded pairLength capped
-returns-2 c = rw (c .enum-told2 .given .1)
-
 returns-3 : tie.Need-returns-3
 unfolding heldOf encoded pairLength
 returns-3 c = rw (c .before .before .before .content .given .1, ← (c .before .unsigned-length .ensures)) (c .with-key .ensures)
@@ -23,17 +15,7 @@ returns-4 c = rw (c .before .before .before .content2 .given .1, ← (c .before 
 
 pub pair-length-spec : {M : Type 1} → statement M
 pair-length-spec =
-    tie.close
-    (tie.spec
-    (λ c. search needs)
-    (λ c. search needs)
-    (λ c. search needs)
-    (λ c κs. search needs)
-    (λ c κs. search needs)
-    (λ c. search needs)
-    (λ c κs. search needs)
-    (λ c κs. search needs)
-    returns
-    returns-2
-    returns-3
-    returns-4)
+    tie.close (tie.spec (λ c. search needs) (λ c. search needs) (λ c. search needs) (λ c κs. search needs) (λ c κs. search needs)
+    (λ c. search needs) (λ c κs. search needs) (λ c κs. search needs)
+    (λ c. unfold heldOf encoded pairLength capped in rw (c .enum-told .given .1))
+    (λ c. unfold heldOf encoded pairLength capped in rw (c .enum-told2 .given .1)) returns-3 returns-4)

@@ -6,14 +6,8 @@ use borrow.Author.Needs.{needs}
 use Rattle.frame_items.proofs.view_sound.Statement.{statement}
 use Rattle.frame_items.proofs.view_sound.Tie as tie
 
-returns : tie.Need-returns
-unfolding sound
-returns c = is-whole _ _ _ (sym (c .before .end .given .1) ∙ c .before .before .before .read-value .ensures)
-
-returns-2 : tie.Need-returns-2
-unfolding sound
-returns-2 c = is-broken _ _ _ (sym (c .enum-told .given .1) ∙ c .before .before .read-value .ensures)
-
 pub view-sound-spec : {M : Type 1} → statement M
 view-sound-spec =
-    tie.close (tie.spec (λ c κs. search needs) (λ c. search needs) (λ c. search needs) returns returns-2)
+    tie.close (tie.spec (λ c κs. search needs) (λ c. search needs) (λ c. search needs)
+    (λ c. unfold sound in is-whole _ _ _ (sym (c .before .end .given .1) ∙ c .before .before .before .read-value .ensures))
+    (λ c. unfold sound in is-broken _ _ _ (sym (c .enum-told .given .1) ∙ c .before .before .read-value .ensures)))

@@ -6,11 +6,6 @@ use borrow.Author.Needs.{needs}
 use Rattle.frame_items.proofs.with_key.Statement.{statement}
 use Rattle.frame_items.proofs.with_key.Tie as tie
 
-returns : tie.Need-returns
-returns c = capped-low (c .before .args .n + 1) (omega arith)
-
-returns-2 : tie.Need-returns-2
-returns-2 c = capped-high (c .before .args .n + 1) (omega arith)
-
 pub with-key-spec : {M : Type 1} → statement M
-with-key-spec = tie.close (tie.spec (λ c. search needs) returns returns-2)
+with-key-spec = tie.close (tie.spec (λ c. search needs) (λ c. capped-low (c .before .args .n + 1) (omega arith))
+    (λ c. capped-high (c .before .args .n + 1) (omega arith)))

@@ -6,14 +6,7 @@ use borrow.Author.Needs.{needs}
 use Rattle.frame_judging.proofs.capped_sum.Statement.{statement}
 use Rattle.frame_judging.proofs.capped_sum.Tie as tie
 
-returns : tie.Need-returns
-returns c = let a = c .before .args in capped-high (a .a + a .b) (omega arith)
-
-returns-2 : tie.Need-returns-2
-returns-2 c = let a = c .before .before .args in capped-high (a .a + a .b) (omega arith)
-
-returns-3 : tie.Need-returns-3
-returns-3 c = let a = c .before .before .args in capped-low (a .a + a .b) (omega arith)
-
 pub capped-sum-spec : {M : Type 1} → statement M
-capped-sum-spec = tie.close (tie.spec returns returns-2 (λ c. search needs) returns-3)
+capped-sum-spec = tie.close (tie.spec (λ c. let a = c .before .args in capped-high (a .a + a .b) (omega arith))
+    (λ c. let a = c .before .before .args in capped-high (a .a + a .b) (omega arith)) (λ c. search needs)
+    (λ c. let a = c .before .before .args in capped-low (a .a + a .b) (omega arith)))

@@ -17,9 +17,6 @@ Inv-loop frame bytes keys i₀ i = (i ≤ length keys) × (all (λ (k : ℕ). pr
 abbrev μ-loop : tie.MeasureT-loop
 μ-loop frame bytes keys i₀ i = length keys - i
 
-loop-holds : tie.Need-loop-holds Inv-loop μ-loop
-loop-holds c = (omega arith, refl)
-
 returns : tie.Need-returns Inv-loop μ-loop
 returns c =
     let b = c .before in
@@ -44,16 +41,5 @@ returns-2 c =
 
 pub holds-all-spec : {M : Type 1} → statement M
 holds-all-spec =
-    tie.close
-    (tie.spec
-    Inv-loop
-    μ-loop
-    loop-holds
-    (λ c. omega arith)
-    (λ c. omega arith)
-    (λ c κs. search needs)
-    returns
-    (λ c. omega arith)
-    (λ c. omega arith)
-    loop-again
-    returns-2)
+    tie.close (tie.spec Inv-loop μ-loop (λ c. (omega arith, refl)) (λ c. omega arith) (λ c. omega arith) (λ c κs. search needs) returns
+    (λ c. omega arith) (λ c. omega arith) loop-again returns-2)

@@ -5,11 +5,6 @@ use native.Mathlib.Omega.{arith}
 use Rattle.frame_judging.proofs.pairs_of.Statement.{statement}
 use Rattle.frame_judging.proofs.pairs_of.Tie as tie
 
-returns : tie.Need-returns
-returns c = (rw (sym (c .before .is-written .ensures) ∙ c .if1 .taken), omega arith)
-
-returns-2 : tie.Need-returns-2
-returns-2 c = (rw (sym (c .before .is-written .ensures) ∙ c .if1 .left), omega arith)
-
 pub pairs-of-spec : {M : Type 1} → statement M
-pairs-of-spec = tie.close (tie.spec (λ c κs. search needs) returns returns-2)
+pairs-of-spec = tie.close (tie.spec (λ c κs. search needs) (λ c. (rw (sym (c .before .is-written .ensures) ∙ c .if1 .taken), omega arith))
+    (λ c. (rw (sym (c .before .is-written .ensures) ∙ c .if1 .left), omega arith)))

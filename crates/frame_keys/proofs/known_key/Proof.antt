@@ -77,46 +77,12 @@ returns-17 : tie.Need-returns-17
 unfolding allItems headerItems bodyItems
 returns-17 c = let a = c .before .before .before .args in place-at (a .frame) (a .bytes .now) (c .before .match .keys17) (c .place-key8 .ensures) refl
 
-returns-18 : tie.Need-returns-18
-unfolding itemOf heldOf
-returns-18 c = let a = c .before .before .args in past-all (a .frame) (a .bytes .now) (a .i) (c .match .rest)
-
 pub known-key-spec : {M : Type 1} → statement M
 known-key-spec =
-    tie.close
-    (tie.spec
-    (λ c κs. search needs)
-    (λ c κs. search needs)
-    (λ c κs. search needs)
-    (λ c κs. search needs)
-    (λ c κs. search needs)
-    (λ c κs. search needs)
-    (λ c κs. search needs)
-    (λ c κs. search needs)
-    (λ c κs. search needs)
-    (λ c κs. search needs)
-    (λ c κs. search needs)
-    (λ c κs. search needs)
-    (λ c κs. search needs)
-    (λ c κs. search needs)
-    (λ c κs. search needs)
-    (λ c κs. search needs)
-    (λ c κs. search needs)
-    returns
-    returns-2
-    returns-3
-    returns-4
-    returns-5
-    returns-6
-    returns-7
-    returns-8
-    returns-9
-    returns-10
-    returns-11
-    returns-12
-    returns-13
-    returns-14
-    returns-15
-    returns-16
+    tie.close (tie.spec (λ c κs. search needs) (λ c κs. search needs) (λ c κs. search needs) (λ c κs. search needs)
+    (λ c κs. search needs) (λ c κs. search needs) (λ c κs. search needs) (λ c κs. search needs) (λ c κs. search needs)
+    (λ c κs. search needs) (λ c κs. search needs) (λ c κs. search needs) (λ c κs. search needs) (λ c κs. search needs)
+    (λ c κs. search needs) (λ c κs. search needs) (λ c κs. search needs) returns returns-2 returns-3 returns-4 returns-5
+    returns-6 returns-7 returns-8 returns-9 returns-10 returns-11 returns-12 returns-13 returns-14 returns-15 returns-16
     returns-17
-    returns-18)
+    (λ c. unfold itemOf heldOf in let a = c .before .before .args in past-all (a .frame) (a .bytes .now) (a .i) (c .match .rest)))

@@ -4,13 +4,5 @@ use Rattle.frame_reading.specs.Steps.{bodyAt}
 use Rattle.frame_reading.proofs.body_at.Statement.{statement}
 use Rattle.frame_reading.proofs.body_at.Tie as tie
 
-returns : tie.Need-returns
-unfolding bodyAt
-returns c = rw (lt-ltb _ _ (c .if1 .taken))
-
-returns-2 : tie.Need-returns-2
-unfolding bodyAt
-returns-2 c = rw (le-ltb _ _ (c .if1 .left))
-
 pub body-at-spec : {M : Type 1} → statement M
-body-at-spec = tie.close (tie.spec returns returns-2)
+body-at-spec = tie.close (tie.spec (λ c. unfold bodyAt in rw (lt-ltb _ _ (c .if1 .taken))) (λ c. unfold bodyAt in rw (le-ltb _ _ (c .if1 .left))))

@@ -7,10 +7,6 @@ use Rattle.frame_reading.specs.Steps.{entriesIn}
 use Rattle.frame_reading.proofs.body_table.Statement.{statement}
 use Rattle.frame_reading.proofs.body_table.Tie as tie
 
-returns : tie.Need-returns
-unfolding tabledOn laidAll entriesIn
-returns c = rw (c .enum-told .given .1)
-
 returns-2 : tie.Need-returns-2
 unfolding entriesIn
 returns-2 c =
@@ -21,4 +17,5 @@ returns-2 c =
 
 pub body-table-spec : {M : Type 1} → statement M
 body-table-spec =
-    tie.close (tie.spec (λ c. search needs) (λ c. search needs) returns (λ c κs. search needs) returns-2)
+    tie.close (tie.spec (λ c. search needs) (λ c. search needs) (λ c. unfold tabledOn laidAll entriesIn in rw (c .enum-told .given .1))
+    (λ c κs. search needs) returns-2)

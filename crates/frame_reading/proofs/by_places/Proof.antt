@@ -43,9 +43,6 @@ returns-3 c =
     _ (needs-some _ _ (d .needs-of .ensures .0) (not-false _ (h .before .if2 .left)))
     (both-are (h .header-suits .ensures) (c .before .before .body-suits .ensures) (not-true _ (c .before .if3 .taken)))
 
-array-share-prefix-keys : tie.Need-array-share-prefix-keys
-array-share-prefix-keys c = c .before .before .before .before .before .before .needs-of .ensures .1
-
 slice-aggregate-all-there : tie.Need-slice-aggregate-all-there
 slice-aggregate-all-there c =
     let d = c .before .before .before .before .before .before .before in
@@ -83,22 +80,7 @@ returns-5 c =
 
 pub by-places-spec : {M : Type 1} → statement M
 by-places-spec =
-    tie.close
-    (tie.spec
-    (λ c κs. search needs)
-    (λ c κs. search needs)
-    returns
-    (λ c κs. search needs)
-    (λ c κs. search needs)
-    returns-2
-    (λ c κs. search needs)
-    (λ c κs. search needs)
-    (λ c κs. search needs)
-    returns-3
-    array-share-prefix-keys
-    slice-aggregate-all-there
-    (λ c κs. search needs)
-    (λ c κs. search needs)
-    returns-4
-    (λ c κs. search needs)
-    returns-5)
+    tie.close (tie.spec (λ c κs. search needs) (λ c κs. search needs) returns (λ c κs. search needs) (λ c κs. search needs) returns-2
+    (λ c κs. search needs) (λ c κs. search needs) (λ c κs. search needs) returns-3
+    (λ c. c .before .before .before .before .before .before .needs-of .ensures .1) slice-aggregate-all-there
+    (λ c κs. search needs) (λ c κs. search needs) returns-4 (λ c κs. search needs) returns-5)

@@ -20,18 +20,6 @@ returns-2 c =
     c .refused2 .ensures
     ∙ judged-7 (a .s .now) (a .at) (a .body) _ _ (t .table-at .ensures) (b .body-table .ensures) (c .before .before .if1 .left) (c .before .if2 .taken)
 
-slice-aggregate-by-places : tie.Need-slice-aggregate-by-places
-slice-aggregate-by-places c = long _ (c .before .before .before .before .before .before .table-at .ensures) .0
-
-slice-aggregate-by-places-2 : tie.Need-slice-aggregate-by-places-2
-slice-aggregate-by-places-2 c = long _ (c .before .before .before .before .before .before .before .table-at .ensures) .1
-
-slice-aggregate-by-places-3 : tie.Need-slice-aggregate-by-places-3
-slice-aggregate-by-places-3 c = long _ (c .before .before .before .before .before .body-table .ensures) .0
-
-slice-aggregate-by-places-4 : tie.Need-slice-aggregate-by-places-4
-slice-aggregate-by-places-4 c = long _ (c .before .before .before .before .before .before .body-table .ensures) .1
-
 returns-3 : tie.Need-returns-3
 returns-3 c =
     let i = c .before .before .before .before .before in
@@ -43,17 +31,9 @@ returns-3 c =
 
 pub judge-spec : {M : Type 1} → statement M
 judge-spec =
-    tie.close
-    (tie.spec
-    (λ c κs. search needs)
-    (λ c κs. search needs)
-    (λ c κs. search needs)
-    returns
-    (λ c κs. search needs)
-    returns-2
-    slice-aggregate-by-places
-    slice-aggregate-by-places-2
-    slice-aggregate-by-places-3
-    slice-aggregate-by-places-4
-    (λ c κs. search needs)
+    tie.close (tie.spec (λ c κs. search needs) (λ c κs. search needs) (λ c κs. search needs) returns (λ c κs. search needs) returns-2
+    (λ c. long _ (c .before .before .before .before .before .before .table-at .ensures) .0)
+    (λ c. long _ (c .before .before .before .before .before .before .before .table-at .ensures) .1)
+    (λ c. long _ (c .before .before .before .before .before .body-table .ensures) .0)
+    (λ c. long _ (c .before .before .before .before .before .before .body-table .ensures) .1) (λ c κs. search needs)
     returns-3)

@@ -41,17 +41,6 @@ returns-3 c =
 
 pub read-frame-spec : {M : Type 1} → statement M
 read-frame-spec =
-    tie.close
-    (tie.spec
-    (λ c κs. search needs)
-    (λ c. search needs)
-    (λ c κs. search needs)
-    (λ c. search needs)
-    sub-if1
-    (λ c κs. search needs)
-    returns
-    (λ c. search needs)
-    slice-aggregate-read-contents
-    (λ c κs. search needs)
-    returns-2
+    tie.close (tie.spec (λ c κs. search needs) (λ c. search needs) (λ c κs. search needs) (λ c. search needs) sub-if1
+    (λ c κs. search needs) returns (λ c. search needs) slice-aggregate-read-contents (λ c κs. search needs) returns-2
     returns-3)

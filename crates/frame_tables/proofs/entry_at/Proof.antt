@@ -24,9 +24,6 @@ returns-3 c =
     no-value (a .s .now) (a .at) _ _ (sym (d .before .before .key .given .1) ∙ b .before .unsigned-at .ensures) _ (d .if1 .left)
     (sym (c .enum-told .given .1) ∙ c .before .before .read-value .ensures)
 
-sub-t10 : tie.Need-sub-t10
-sub-t10 c = ends-after _ _ _ (sym (c .before .end .given .1) ∙ c .before .before .before .read-value .ensures)
-
 returns-4 : tie.Need-returns-4
 returns-4 c =
     let d = c .before .before .before .before in
@@ -37,15 +34,6 @@ returns-4 c =
 
 pub entry-at-spec : {M : Type 1} → statement M
 entry-at-spec =
-    tie.close
-    (tie.spec
-    (λ c κs. search needs)
-    (λ c. search needs)
-    returns
-    returns-2
-    (λ c κs. search needs)
-    (λ c. search needs)
-    (λ c. search needs)
-    returns-3
-    sub-t10
-    returns-4)
+    tie.close (tie.spec (λ c κs. search needs) (λ c. search needs) returns returns-2 (λ c κs. search needs) (λ c. search needs)
+    (λ c. search needs) returns-3
+    (λ c. ends-after _ _ _ (sym (c .before .end .given .1) ∙ c .before .before .before .read-value .ensures)) returns-4)

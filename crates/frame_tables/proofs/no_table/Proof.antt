@@ -4,9 +4,5 @@ use Rattle.frame_tables.specs.Tables.{emptyTable}
 use Rattle.frame_tables.proofs.no_table.Statement.{statement}
 use Rattle.frame_tables.proofs.no_table.Tie as tie
 
-returns : tie.Need-returns
-unfolding emptyTable
-returns c = refl
-
 pub no-table-spec : {M : Type 1} → statement M
-no-table-spec = tie.close (tie.spec returns)
+no-table-spec = tie.close (tie.spec (λ c. unfold emptyTable in refl))

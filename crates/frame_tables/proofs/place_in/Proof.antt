@@ -19,5 +19,4 @@ returns-2 c =
 
 pub place-in-spec : {M : Type 1} → statement M
 place-in-spec =
-    tie.close
-    (tie.spec (λ c κs. search needs) (λ c κs. search needs) returns (λ c κs. search needs) returns-2)
+    tie.close (tie.spec (λ c κs. search needs) (λ c κs. search needs) returns (λ c κs. search needs) returns-2)

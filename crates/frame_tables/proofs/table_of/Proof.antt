@@ -20,9 +20,6 @@ Inv-loop s count from starts₀ lengths₀ number₀ at₀ left₀ starts length
 abbrev μ-loop : tie.MeasureT-loop
 μ-loop s count from starts₀ lengths₀ number₀ at₀ left₀ starts lengths number at left = left
 
-loop-holds : tie.Need-loop-holds Inv-loop μ-loop
-loop-holds c = refl
-
 -- what is left, with one entry taken from its count
 left-one : (c : tie.In-loop Inv-loop μ-loop) →
     (let a = c .before .before .before .args in let l = c .before .loop in
@@ -52,27 +49,6 @@ returns c =
     ∙ sym (table-none heldDepth (a .s .now) (l .left - 1) (l .at) (table (l .number) (l .starts) (l .lengths)) (step-none _ (sym (o .enum-told .given .1) ∙ o .before .before .entry-at .ensures)))
     ∙ left-one i
 
-mul-if1 : tie.Need-mul-if1 Inv-loop μ-loop
-mul-if1 c = let f = fits (c .before) in omega arith
-
-element-copy-out-if1 : tie.Need-element-copy-out-if1 Inv-loop μ-loop
-element-copy-out-if1 c = fits (c .before) .low
-
-mul-starts : tie.Need-mul-starts Inv-loop μ-loop
-mul-starts c = let f = fits (c .before .before .before) in omega arith
-
-element-write-starts : tie.Need-element-write-starts Inv-loop μ-loop
-element-write-starts c = fits (c .before .before .before) .low
-
-mul-lengths : tie.Need-mul-lengths Inv-loop μ-loop
-mul-lengths c = let f = fits (c .before .before .before) in omega arith
-
-element-write-lengths : tie.Need-element-write-lengths Inv-loop μ-loop
-element-write-lengths c = fits (c .before .before .before) .low
-
-add-at : tie.Need-add-at Inv-loop μ-loop
-add-at c = let f = fits (c .before .before .before) in omega arith
-
 loop-again : tie.Need-loop-again Inv-loop μ-loop
 loop-again c =
     let k = c .before .before .before in
@@ -96,24 +72,9 @@ returns-2 c =
 
 pub table-of-spec : {M : Type 1} → statement M
 table-of-spec =
-    tie.close
-    (tie.spec
-    Inv-loop
-    μ-loop
-    loop-holds
-    (λ c κs. search needs)
-    (λ c. search needs)
-    (λ c. search needs)
-    (λ c κs. search needs)
-    returns
-    mul-if1
-    element-copy-out-if1
-    mul-starts
-    element-write-starts
-    mul-lengths
-    element-write-lengths
-    add-at
-    (λ c. omega arith)
-    (λ c. omega arith)
-    loop-again
+    tie.close (tie.spec Inv-loop μ-loop (λ c. refl) (λ c κs. search needs) (λ c. search needs) (λ c. search needs)
+    (λ c κs. search needs) returns (λ c. let f = fits (c .before) in omega arith) (λ c. fits (c .before) .low)
+    (λ c. let f = fits (c .before .before .before) in omega arith) (λ c. fits (c .before .before .before) .low)
+    (λ c. let f = fits (c .before .before .before) in omega arith) (λ c. fits (c .before .before .before) .low)
+    (λ c. let f = fits (c .before .before .before) in omega arith) (λ c. omega arith) (λ c. omega arith) loop-again
     returns-2)

@@ -36,5 +36,4 @@ returns c =
 
 pub put-frame-spec : {M : Type 1} → statement M
 put-frame-spec =
-    tie.close
-    (tie.spec (λ c κs. search needs) put-map-requires put-map-requires-2 (λ c. search needs) returns)
+    tie.close (tie.spec (λ c κs. search needs) put-map-requires put-map-requires-2 (λ c. search needs) returns)

@@ -26,9 +26,4 @@ returns c =
 
 pub put-map-spec : {M : Type 1} → statement M
 put-map-spec =
-    tie.close
-    (tie.spec
-    (λ c κs. search needs)
-    put-pairs-requires
-    (λ c. search needs)
-    returns)
+    tie.close (tie.spec (λ c κs. search needs) put-pairs-requires (λ c. search needs) returns)

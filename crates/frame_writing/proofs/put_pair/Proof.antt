@@ -33,18 +33,5 @@ returns-4 c = let p = c .before .before in rw (p .before .before .before .before
 
 pub put-pair-spec : {M : Type 1} → statement M
 put-pair-spec =
-    tie.close
-    (tie.spec
-    (λ c. search needs)
-    (λ c. search needs)
-    (λ c. search needs)
-    put-number-requires
-    (λ c. search needs)
-    (λ c κs. search needs)
-    put-view-requires
-    returns
-    returns-2
-    (λ c. search needs)
-    returns-3
-    (λ c. search needs)
-    returns-4)
+    tie.close (tie.spec (λ c. search needs) (λ c. search needs) (λ c. search needs) put-number-requires (λ c. search needs)
+    (λ c κs. search needs) put-view-requires returns returns-2 (λ c. search needs) returns-3 (λ c. search needs) returns-4)

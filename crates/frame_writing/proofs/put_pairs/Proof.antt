@@ -19,9 +19,6 @@ Inv-loop out₀ at frame bytes from to a₀ i₀ out a i = (i ≤ to) × Left ou
 abbrev μ-loop : tie.MeasureT-loop
 μ-loop out₀ at frame bytes from to a₀ i₀ out a i = to - i
 
-loop-holds : tie.Need-loop-holds Inv-loop μ-loop
-loop-holds c = (omega arith, all-left _ _ _ (c .before .before .pre .1))
-
 put-pair-requires : tie.Need-put-pair-requires Inv-loop μ-loop
 put-pair-requires c κs =
     let k = c .before in
@@ -36,9 +33,6 @@ loop-again c =
     let a = k .before .before .before .before .before .args in
     (omega arith, turn-on (l .inv .1) (pairOf (k .known-key .result .key) (encoded (heldOf (a .bytes .now) (k .known-key .result .content)))) (pair-first (a .bytes .now) (k .known-key .result) (run (a .frame) (a .bytes .now) (l .i) (a .to) (k .known-key .result) (k .known-key .ensures) (k .before .loop-test .taken) (omega arith))) (c .before .before .put-pair .ensures))
 
-same-length : tie.Need-same-length Inv-loop μ-loop
-same-length c = long (c .before .loop .inv .1)
-
 returns : tie.Need-returns Inv-loop μ-loop
 unfolding pairBytes pairs flat joined
 returns c =
@@ -48,15 +42,5 @@ returns c =
 
 pub put-pairs-spec : {M : Type 1} → statement M
 put-pairs-spec =
-    tie.close
-    (tie.spec
-    Inv-loop
-    μ-loop
-    loop-holds
-    (λ c κs. search needs)
-    put-pair-requires
-    (λ c. omega arith)
-    (λ c. omega arith)
-    loop-again
-    same-length
-    returns)
+    tie.close (tie.spec Inv-loop μ-loop (λ c. (omega arith, all-left _ _ _ (c .before .before .pre .1))) (λ c κs. search needs)
+    put-pair-requires (λ c. omega arith) (λ c. omega arith) loop-again (λ c. long (c .before .loop .inv .1)) returns)

@@ -4,13 +4,5 @@ use Rattle.laksubinat.specs.Shown.{bit}
 use Rattle.laksubinat.proofs.bit.Statement.{statement}
 use Rattle.laksubinat.proofs.bit.Tie as tie
 
-returns : tie.Need-returns
-unfolding bit
-returns c = sym (ap bit (c .if1 .taken))
-
-returns-2 : tie.Need-returns-2
-unfolding bit
-returns-2 c = sym (ap bit (c .if1 .left))
-
 pub bit-spec : {M : Type 1} → statement M
-bit-spec = tie.close (tie.spec returns returns-2)
+bit-spec = tie.close (tie.spec (λ c. unfold bit in sym (ap bit (c .if1 .taken))) (λ c. unfold bit in sym (ap bit (c .if1 .left))))

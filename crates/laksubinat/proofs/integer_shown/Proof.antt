@@ -4,15 +4,8 @@ use borrow.Author.Needs.{needs}
 use Rattle.laksubinat.proofs.integer_shown.Statement.{statement}
 use Rattle.laksubinat.proofs.integer_shown.Tie as tie
 
-returns : tie.Need-returns
-unfolding integerShown
-returns c = rw (c .before .before .z .given .1, c .held .ensures)
-
-returns-2 : tie.Need-returns-2
-unfolding integerShown
-returns-2 c = rw (c .before .before .z2 .given .1, c .held2 .ensures)
-
 pub integer-shown-spec : {M : Type 1} → statement M
 integer-shown-spec =
-    tie.close
-    (tie.spec (λ c. search needs) (λ c κs. search needs) (λ c. search needs) (λ c. search needs) (λ c κs. search needs) returns returns-2)
+    tie.close (tie.spec (λ c. search needs) (λ c κs. search needs) (λ c. search needs) (λ c. search needs) (λ c κs. search needs)
+    (λ c. unfold integerShown in rw (c .before .before .z .given .1, c .held .ensures))
+    (λ c. unfold integerShown in rw (c .before .before .z2 .given .1, c .held2 .ensures)))

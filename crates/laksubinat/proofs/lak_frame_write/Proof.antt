@@ -5,9 +5,6 @@ use borrow.Author.Needs.{needs}
 use Rattle.laksubinat.proofs.lak_frame_write.Statement.{statement}
 use Rattle.laksubinat.proofs.lak_frame_write.Tie as tie
 
-returns : tie.Need-returns
-unfolding result
-returns c = ap result (c .before .before .write-frame .ensures)
-
 pub lak-frame-write-spec : {M : Type 1} → statement M
-lak-frame-write-spec = tie.close (tie.spec (λ c κs. search needs) (λ c. search needs) returns)
+lak-frame-write-spec = tie.close (tie.spec (λ c κs. search needs) (λ c. search needs)
+    (λ c. unfold result in ap result (c .before .before .write-frame .ensures)))

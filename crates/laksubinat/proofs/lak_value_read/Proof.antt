@@ -5,9 +5,6 @@ use borrow.Author.Needs.{needs}
 use Rattle.laksubinat.proofs.lak_value_read.Statement.{statement}
 use Rattle.laksubinat.proofs.lak_value_read.Tie as tie
 
-returns : tie.Need-returns
-unfolding shown
-returns c = c .meaning-shown .ensures ∙ ap shown (c .before .read-alone .ensures)
-
 pub lak-value-read-spec : {M : Type 1} → statement M
-lak-value-read-spec = tie.close (tie.spec (λ c κs. search needs) (λ c κs. search needs) returns)
+lak-value-read-spec = tie.close (tie.spec (λ c κs. search needs) (λ c κs. search needs)
+    (λ c. unfold shown in c .meaning-shown .ensures ∙ ap shown (c .before .read-alone .ensures)))

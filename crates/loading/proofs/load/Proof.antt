@@ -13,9 +13,6 @@ use Rattle.loading.proofs.load.Tie as tie
 opened : (k : tie.After-known-told) → (let n = k .before .n in header arrayBy (k .before .before .before .before .before .before .before .before .args .tuple .now) ≡ Is (n .given .0 .0) (n .given .0 .1 .0))
 opened k = header-is _ (sym (k .before .n .given .1) ∙ k .before .before .before .header-at .ensures)
 
-returns : tie.Need-returns
-returns c = no-room (c .before .before .before .args .tuple .now) (c .if1 .taken)
-
 returns-2 : tie.Need-returns-2
 returns-2 c = let t = c .before .before .before .before .args .tuple .now in in-room t (c .before .if1 .left) (long-tuple t (c .if2 .taken))
 
@@ -45,15 +42,5 @@ returns-5 c =
 
 pub load-spec : {M : Type 1} → statement M
 load-spec =
-    tie.close
-    (tie.spec
-    returns
-    returns-2
-    (λ c κs. search needs)
-    (λ c. search needs)
-    (λ c. search needs)
-    returns-3
-    returns-4
-    lay-requires
-    (λ c. search needs)
-    returns-5)
+    tie.close (tie.spec (λ c. no-room (c .before .before .before .args .tuple .now) (c .if1 .taken)) returns-2 (λ c κs. search needs)
+    (λ c. search needs) (λ c. search needs) returns-3 returns-4 lay-requires (λ c. search needs) returns-5)

@@ -33,9 +33,6 @@ returns c =
     let l = r .before .before in
     next-broken (value-good fieldDepth) (l .loop .inv .2) (omega arith) (omega arith) (sym (c .before .place .given .1) ∙ r .read-value .ensures)
 
-sub-lengths : tie.Need-sub-lengths Inv-loop μ-loop
-sub-lengths c = let e = place-after (value-good fieldDepth) (at-loop c .loop .inv .2) (omega arith) (whole c) in omega arith
-
 cast-lengths : tie.Need-cast-lengths Inv-loop μ-loop
 cast-lengths c =
     let l = at-loop c in
@@ -47,27 +44,10 @@ loop-again c =
     let l = at-loop c in
     (omega arith, simp length-set (omega arith), next-whole (value-good fieldDepth) (l .loop .inv .2) (omega arith) (omega arith) (whole c))
 
-returns-2 : tie.Need-returns-2 Inv-loop μ-loop
-returns-2 c = let l = c .before in all-whole (l .loop .inv .2) (omega arith) (omega arith)
-
 pub measure-spec : {M : Type 1} → statement M
 measure-spec =
-    tie.close
-    (tie.spec
-    Inv-loop
-    μ-loop
-    loop-holds
-    (λ c κs. search needs)
+    tie.close (tie.spec Inv-loop μ-loop loop-holds (λ c κs. search needs) (λ c. search needs) (λ c. search needs) returns
     (λ c. search needs)
-    (λ c. search needs)
-    returns
-    (λ c. search needs)
-    sub-lengths
-    cast-lengths
-    (λ c. search needs)
-    (λ c. search needs)
-    (λ c. search needs)
-    (λ c. search needs)
-    loop-again
-    (λ c. search needs)
-    returns-2)
+    (λ c. let e = place-after (value-good fieldDepth) (at-loop c .loop .inv .2) (omega arith) (whole c) in omega arith)
+    cast-lengths (λ c. search needs) (λ c. search needs) (λ c. search needs) (λ c. search needs) loop-again
+    (λ c. search needs) (λ c. let l = c .before in all-whole (l .loop .inv .2) (omega arith) (omega arith)))

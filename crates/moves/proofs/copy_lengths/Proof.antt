@@ -14,9 +14,6 @@ Inv-loop s₀ at piece i₀ s i = (i ≤ length piece) × (length s ≡ length s
 abbrev μ-loop : tie.MeasureT-loop
 μ-loop s₀ at piece i₀ s i = length piece - i
 
-loop-holds : tie.Need-loop-holds Inv-loop μ-loop
-loop-holds c = (omega arith, refl, paste-zero (c .args .s .now) (c .args .at) (c .args .piece .now))
-
 loop-again : tie.Need-loop-again Inv-loop μ-loop
 loop-again c =
     let l = c .before .before in
@@ -32,18 +29,6 @@ returns c =
 
 pub copy-lengths-spec : {M : Type 1} → statement M
 copy-lengths-spec =
-    tie.close
-    (tie.spec
-    Inv-loop
-    μ-loop
-    loop-holds
-    (λ c. omega arith)
-    (λ c. omega arith)
-    (λ c. omega arith)
-    (λ c. omega arith)
-    (λ c. omega arith)
-    (λ c. omega arith)
-    (λ c. omega arith)
-    loop-again
-    (λ c. omega arith)
-    returns)
+    tie.close (tie.spec Inv-loop μ-loop (λ c. (omega arith, refl, paste-zero (c .args .s .now) (c .args .at) (c .args .piece .now)))
+    (λ c. omega arith) (λ c. omega arith) (λ c. omega arith) (λ c. omega arith) (λ c. omega arith) (λ c. omega arith)
+    (λ c. omega arith) loop-again (λ c. omega arith) returns)

@@ -4,17 +4,8 @@ use borrow.Author.Needs.{needs}
 use Rattle.moves.proofs.move_lengths.Statement.{statement}
 use Rattle.moves.proofs.move_lengths.Tie as tie
 
-returns : tie.Need-returns
-returns c = let a = c .before .before .args in same-place (a .s .now) (a .from) (a .to) (a .n) (c .if1 .taken)
-
 pub move-lengths-spec : {M : Type 1} → statement M
 move-lengths-spec =
-    tie.close
-    (tie.spec
-    returns
-    (λ c κs. search needs)
-    (λ c. search needs)
-    (λ c. search needs)
-    (λ c κs. search needs)
-    (λ c. search needs)
+    tie.close (tie.spec (λ c. let a = c .before .before .args in same-place (a .s .now) (a .from) (a .to) (a .n) (c .if1 .taken))
+    (λ c κs. search needs) (λ c. search needs) (λ c. search needs) (λ c κs. search needs) (λ c. search needs)
     (λ c. search needs))

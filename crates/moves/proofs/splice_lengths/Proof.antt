@@ -11,24 +11,6 @@ use Rattle.moves.proofs.splice_lengths.Tie as tie
 room : (c : tie.Else1) → (let a = c .before .before .before .before .args in Room (length (a .s .now)) (a .total) (a .at) (a .gone) (length (a .piece .now)))
 room c = fitted _ _ _ _ _ (sym (c .before .fitting .ensures) ∙ not-false _ (c .if1 .left))
 
-returns : tie.Need-returns
-returns c = unchanged _ _ _ _ _ (sym (c .before .fitting .ensures) ∙ not-true _ (c .if1 .taken))
-
-add-rest : tie.Need-add-rest
-add-rest c = let r = room c in omega arith
-
-add-move-lengths : tie.Need-add-move-lengths
-add-move-lengths c = let r = room (c .before) in omega arith
-
-sub-move-lengths : tie.Need-sub-move-lengths
-sub-move-lengths c = let r = room (c .before) in omega arith
-
-move-lengths-requires : tie.Need-move-lengths-requires
-move-lengths-requires c κs = let r = room (c .before) in omega arith
-
-copy-lengths-requires : tie.Need-copy-lengths-requires
-copy-lengths-requires c κs = let r = room (c .before .before .before .before .before) in omega arith
-
 returns-2 : tie.Need-returns-2
 returns-2 c =
     let w = c .before .before in
@@ -39,14 +21,8 @@ returns-2 c =
 
 pub splice-lengths-spec : {M : Type 1} → statement M
 splice-lengths-spec =
-    tie.close
-    (tie.spec
-    (λ c κs. search needs)
-    returns
-    add-rest
-    add-move-lengths
-    sub-move-lengths
-    move-lengths-requires
-    copy-lengths-requires
-    (λ c. search needs)
-    returns-2)
+    tie.close (tie.spec (λ c κs. search needs)
+    (λ c. unchanged _ _ _ _ _ (sym (c .before .fitting .ensures) ∙ not-true _ (c .if1 .taken)))
+    (λ c. let r = room c in omega arith) (λ c. let r = room (c .before) in omega arith)
+    (λ c. let r = room (c .before) in omega arith) (λ c κs. let r = room (c .before) in omega arith)
+    (λ c κs. let r = room (c .before .before .before .before .before) in omega arith) (λ c. search needs) returns-2)

@@ -9,22 +9,6 @@ use Rattle.msgpack_first_bytes.proofs.Forms.{agree}
 use Rattle.msgpack_first_bytes.proofs.form_of.Statement.{statement}
 use Rattle.msgpack_first_bytes.proofs.form_of.Tie as tie
 
-returns : tie.Need-returns
-unfolding formOf
-returns c = rw (c .match .keys1)
-
-returns-2 : tie.Need-returns-2
-unfolding formOf
-returns-2 c = rw (c .match .keys2)
-
-returns-3 : tie.Need-returns-3
-unfolding formOf
-returns-3 c = rw (c .match .keys3)
-
-returns-4 : tie.Need-returns-4
-unfolding formOf
-returns-4 c = rw (c .match .keys4)
-
 returns-5 : tie.Need-returns-5
 unfolding formOf
 returns-5 c = agree (λ b. Scalar Unsigned 0 0) formOf 0x00 128 tt (c .before .before .before .args .b) (omega arith) (omega arith)
@@ -99,39 +83,9 @@ returns-18 c = agree (λ b. Scalar Signed 0 0) formOf 0xe0 32 tt (c .before .bef
 
 pub form-of-spec : {M : Type 1} → statement M
 form-of-spec =
-    tie.close
-    (tie.spec
-    (λ c. search needs)
-    (λ c. search needs)
-    (λ c. search needs)
-    (λ c. search needs)
-    (λ c κs. search needs)
-    (λ c κs. search needs)
-    (λ c. search needs)
-    (λ c κs. search needs)
-    (λ c κs. search needs)
-    (λ c κs. search needs)
-    (λ c. search needs)
-    (λ c κs. search needs)
-    (λ c κs. search needs)
-    (λ c. search needs)
-    (λ c κs. search needs)
-    (λ c. search needs)
-    returns
-    returns-2
-    returns-3
-    returns-4
-    returns-5
-    returns-6
-    returns-7
-    returns-8
-    returns-9
-    returns-10
-    returns-11
-    returns-12
-    returns-13
-    returns-14
-    returns-15
-    returns-16
-    returns-17
-    returns-18)
+    tie.close (tie.spec (λ c. search needs) (λ c. search needs) (λ c. search needs) (λ c. search needs) (λ c κs. search needs)
+    (λ c κs. search needs) (λ c. search needs) (λ c κs. search needs) (λ c κs. search needs) (λ c κs. search needs)
+    (λ c. search needs) (λ c κs. search needs) (λ c κs. search needs) (λ c. search needs) (λ c κs. search needs)
+    (λ c. search needs) (λ c. unfold formOf in rw (c .match .keys1)) (λ c. unfold formOf in rw (c .match .keys2))
+    (λ c. unfold formOf in rw (c .match .keys3)) (λ c. unfold formOf in rw (c .match .keys4)) returns-5 returns-6 returns-7
+    returns-8 returns-9 returns-10 returns-11 returns-12 returns-13 returns-14 returns-15 returns-16 returns-17 returns-18)

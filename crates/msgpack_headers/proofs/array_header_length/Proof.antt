@@ -9,9 +9,6 @@ add-result : tie.Need-add-result
 unfolding arrayHeader
 add-result c = omega (arith, head-length _ _ _ (c .before .count-head .ensures), array-long (c .before .before .args .n) .1)
 
-returns : tie.Need-returns
-unfolding arrayHeader
-returns c = head-length _ _ _ (c .before .count-head .ensures)
-
 pub array-header-length-spec : {M : Type 1} → statement M
-array-header-length-spec = tie.close (tie.spec (λ c κs. omega arith) add-result returns)
+array-header-length-spec = tie.close (tie.spec (λ c κs. omega arith) add-result
+    (λ c. unfold arrayHeader in head-length _ _ _ (c .before .count-head .ensures)))

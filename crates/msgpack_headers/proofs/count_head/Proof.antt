@@ -5,15 +5,7 @@ use Rattle.msgpack_writing.specs.Forms.{bigEndian}
 use Rattle.msgpack_headers.proofs.count_head.Statement.{statement}
 use Rattle.msgpack_headers.proofs.count_head.Tie as tie
 
-returns : tie.Need-returns
-unfolding bigEndian
-returns c = simp (lt-ltb _ _ (c .if1 .taken))
-
-returns-2 : tie.Need-returns-2
-returns-2 c = simp (le-ltb _ _ (c .before .if1 .left), lt-ltb _ _ (c .if2 .taken))
-
-returns-3 : tie.Need-returns-3
-returns-3 c = simp (le-ltb _ _ (c .before .if1 .left), le-ltb _ _ (c .if2 .left))
-
 pub count-head-spec : {M : Type 1} → statement M
-count-head-spec = tie.close (tie.spec (λ c. omega arith) (λ c. omega arith) returns returns-2 (λ c. omega arith) returns-3)
+count-head-spec = tie.close (tie.spec (λ c. omega arith) (λ c. omega arith) (λ c. unfold bigEndian in simp (lt-ltb _ _ (c .if1 .taken)))
+    (λ c. simp (le-ltb _ _ (c .before .if1 .left), lt-ltb _ _ (c .if2 .taken))) (λ c. omega arith)
+    (λ c. simp (le-ltb _ _ (c .before .if1 .left), le-ltb _ _ (c .if2 .left))))

@@ -5,11 +5,7 @@ use Rattle.msgpack_headers.proofs.string_header_length.Statement.{state
 use Rattle.msgpack_headers.proofs.string_header_length.Tie as tie
 use borrow.Author.Needs.{needs}
 
-add-result : tie.Need-add-result
-add-result c = omega (arith, head-length _ _ _ (c .before .string-head .ensures), string-long (c .before .before .args .n) .1)
-
-returns : tie.Need-returns
-returns c = head-length _ _ _ (c .before .string-head .ensures)
-
 pub string-header-length-spec : {M : Type 1} → statement M
-string-header-length-spec = tie.close (tie.spec (λ c κs. search needs) add-result returns)
+string-header-length-spec = tie.close (tie.spec (λ c κs. search needs)
+    (λ c. omega (arith, head-length _ _ _ (c .before .string-head .ensures), string-long (c .before .before .args .n) .1))
+    (λ c. head-length _ _ _ (c .before .string-head .ensures)))

@@ -15,18 +15,7 @@ returns : tie.Need-returns
 unfolding ofFloat32
 returns c = rw (← (c .before .before .before .before .number-at .ensures .0), c .before .before .n .given .1) (c .float32 .ensures)
 
-returns-2 : tie.Need-returns-2
-unfolding ofFloat32
-returns-2 c = rw (← (c .before .before .number-at .ensures .0), c .enum-told .given .1)
-
 pub float32-meaning-spec : {M : Type 1} → statement M
 float32-meaning-spec =
-    tie.close
-    (tie.spec
-    (λ c κs. search needs)
-    (λ c. search needs)
-    cast-float32
-    (λ c κs. search needs)
-    (λ c. search needs)
-    returns
-    returns-2)
+    tie.close (tie.spec (λ c κs. search needs) (λ c. search needs) cast-float32 (λ c κs. search needs) (λ c. search needs) returns
+    (λ c. unfold ofFloat32 in rw (← (c .before .before .number-at .ensures .0), c .enum-told .given .1)))

@@ -17,19 +17,9 @@ unshifted Other = refl
 at-front : (c : tie.After-integer-at) → c .integer-at .result ≡ integer (c .before .before .args .s .now)
 at-front c = c .integer-at .ensures ∙ unshifted (integer (c .before .before .args .s .now))
 
-returns : tie.Need-returns
-unfolding ofInteger
-returns c = rw (← (at-front (c .before .before .before)), c .before .z .given .1)
-
-returns-2 : tie.Need-returns-2
-unfolding ofInteger
-returns-2 c = rw (← (at-front (c .before .before)), c .enum-told .given .1)
-
-returns-3 : tie.Need-returns-3
-unfolding ofInteger
-returns-3 c = rw (← (at-front (c .before .before)), c .enum-told2 .given .1)
-
 pub integer-meaning-spec : {M : Type 1} → statement M
 integer-meaning-spec =
-    tie.close
-    (tie.spec (λ c κs. search needs) (λ c. search needs) (λ c. search needs) (λ c. search needs) returns returns-2 returns-3)
+    tie.close (tie.spec (λ c κs. search needs) (λ c. search needs) (λ c. search needs) (λ c. search needs)
+    (λ c. unfold ofInteger in rw (← (at-front (c .before .before .before)), c .before .z .given .1))
+    (λ c. unfold ofInteger in rw (← (at-front (c .before .before)), c .enum-told .given .1))
+    (λ c. unfold ofInteger in rw (← (at-front (c .before .before)), c .enum-told2 .given .1)))

@@ -20,34 +20,14 @@ scalar-meaning-requires c κs =
     let k = whole-within 16 _ _ (c .before .before .before .before .before .before .pre) in
     (scalar-whole 16 (a .s .now) (a .end) (f .0 .0) (f .0 .1 .0) (f .0 .1 .1 .0) (omega arith) (c .before .before .before .before .before .before .pre) (sym (f .1) ∙ c .before .before .before .form-of .ensures), k .1)
 
-returns : tie.Need-returns
-unfolding meaning
-returns c = rw (← (c .before .before .form-of .ensures), c .enum-told .given .1)
-
 returns-2 : tie.Need-returns-2
 unfolding meaning
 returns-2 c = rw (← (c .before .before .before .before .form-of .ensures), c .before .before .kind .given .1) (c .scalar-meaning .ensures)
 
-returns-3 : tie.Need-returns-3
-unfolding meaning
-returns-3 c = rw (← (c .before .before .form-of .ensures), c .enum-told2 .given .1)
-
-returns-4 : tie.Need-returns-4
-unfolding meaning
-returns-4 c = rw (← (c .before .before .form-of .ensures), c .enum-told3 .given .1)
-
 pub meaning-of-spec : {M : Type 1} → statement M
 meaning-of-spec =
-    tie.close
-    (tie.spec
-    shared-slice-read-form-of
-    (λ c κs. search needs)
-    (λ c. search needs)
-    (λ c. search needs)
-    scalar-meaning-requires
-    (λ c. search needs)
-    (λ c. search needs)
-    returns
-    returns-2
-    returns-3
-    returns-4)
+    tie.close (tie.spec shared-slice-read-form-of (λ c κs. search needs) (λ c. search needs) (λ c. search needs)
+    scalar-meaning-requires (λ c. search needs) (λ c. search needs)
+    (λ c. unfold meaning in rw (← (c .before .before .form-of .ensures), c .enum-told .given .1)) returns-2
+    (λ c. unfold meaning in rw (← (c .before .before .form-of .ensures), c .enum-told2 .given .1))
+    (λ c. unfold meaning in rw (← (c .before .before .form-of .ensures), c .enum-told3 .given .1)))

@@ -10,18 +10,12 @@ use Rattle.msgpack_meanings.proofs.read_alone.Tie as tie
 read-front : (c : tie.After-read-value) → value 16 (c .before .before .args .s .now) ≡ c .read-value .result
 read-front c = sym (c .read-value .ensures ∙ shift-none (value 16 (c .before .before .args .s .now)))
 
-meaning-of-requires : tie.Need-meaning-of-requires
-meaning-of-requires c κs = read-front (c .before .before .before) ∙ c .before .end .given .1
-
 returns : tie.Need-returns
 unfolding alone aloneBy
 returns c = rw (read-front (c .before .before .before .before) ∙ c .before .before .end .given .1, ← (c .meaning-of .ensures))
 
-returns-2 : tie.Need-returns-2
-unfolding alone aloneBy
-returns-2 c = rw (read-front (c .before .before) ∙ c .enum-told .given .1)
-
 pub read-alone-spec : {M : Type 1} → statement M
 read-alone-spec =
-    tie.close
-    (tie.spec (λ c κs. search needs) (λ c. search needs) meaning-of-requires (λ c. search needs) returns returns-2)
+    tie.close (tie.spec (λ c κs. search needs) (λ c. search needs)
+    (λ c κs. read-front (c .before .before .before) ∙ c .before .end .given .1) (λ c. search needs) returns
+    (λ c. unfold alone aloneBy in rw (read-front (c .before .before) ∙ c .enum-told .given .1)))

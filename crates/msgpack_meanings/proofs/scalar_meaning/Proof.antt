@@ -26,38 +26,6 @@ sub-t16 c =
     let k = ext (c .before) in
     omega arith
 
-returns : tie.Need-returns
-unfolding scalarMeaning
-returns c = rw (c .enum-told .given .1)
-
-returns-2 : tie.Need-returns-2
-unfolding scalarMeaning
-returns-2 c = rw (c .before .enum-told2 .given .1)
-
-returns-3 : tie.Need-returns-3
-unfolding scalarMeaning
-returns-3 c = rw (c .before .enum-told3 .given .1) (c .integer-meaning .ensures)
-
-returns-4 : tie.Need-returns-4
-unfolding scalarMeaning
-returns-4 c = rw (c .before .enum-told4 .given .1) (c .integer-meaning2 .ensures)
-
-returns-5 : tie.Need-returns-5
-unfolding scalarMeaning
-returns-5 c = rw (c .before .enum-told5 .given .1) (c .float32-meaning .ensures)
-
-returns-6 : tie.Need-returns-6
-unfolding scalarMeaning
-returns-6 c = rw (c .before .enum-told6 .given .1) (c .float64-meaning .ensures)
-
-returns-7 : tie.Need-returns-7
-unfolding scalarMeaning
-returns-7 c = rw (c .enum-told7 .given .1)
-
-returns-8 : tie.Need-returns-8
-unfolding scalarMeaning
-returns-8 c = rw (c .enum-told8 .given .1)
-
 returns-9 : tie.Need-returns-9
 unfolding scalarMeaning
 returns-9 c =
@@ -67,35 +35,15 @@ returns-9 c =
 
 pub scalar-meaning-spec : {M : Type 1} → statement M
 scalar-meaning-spec =
-    tie.close
-    (tie.spec
-    (λ c. search needs)
-    (λ c. search needs)
-    (λ c. search needs)
-    (λ c. search needs)
-    (λ c. search needs)
-    (λ c κs. search needs)
-    (λ c. search needs)
-    (λ c κs. search needs)
-    (λ c. search needs)
-    (λ c κs. search needs)
-    (λ c. search needs)
-    (λ c κs. search needs)
-    (λ c. search needs)
-    (λ c. search needs)
-    (λ c. search needs)
-    (λ c. search needs)
-    (λ c. search needs)
-    shared-slice-read-t13
-    (λ c. search needs)
-    (λ c. search needs)
-    sub-t16
-    returns
-    returns-2
-    returns-3
-    returns-4
-    returns-5
-    returns-6
-    returns-7
-    returns-8
+    tie.close (tie.spec (λ c. search needs) (λ c. search needs) (λ c. search needs) (λ c. search needs) (λ c. search needs)
+    (λ c κs. search needs) (λ c. search needs) (λ c κs. search needs) (λ c. search needs) (λ c κs. search needs)
+    (λ c. search needs) (λ c κs. search needs) (λ c. search needs) (λ c. search needs) (λ c. search needs)
+    (λ c. search needs) (λ c. search needs) shared-slice-read-t13 (λ c. search needs) (λ c. search needs) sub-t16
+    (λ c. unfold scalarMeaning in rw (c .enum-told .given .1))
+    (λ c. unfold scalarMeaning in rw (c .before .enum-told2 .given .1))
+    (λ c. unfold scalarMeaning in rw (c .before .enum-told3 .given .1) (c .integer-meaning .ensures))
+    (λ c. unfold scalarMeaning in rw (c .before .enum-told4 .given .1) (c .integer-meaning2 .ensures))
+    (λ c. unfold scalarMeaning in rw (c .before .enum-told5 .given .1) (c .float32-meaning .ensures))
+    (λ c. unfold scalarMeaning in rw (c .before .enum-told6 .given .1) (c .float64-meaning .ensures))
+    (λ c. unfold scalarMeaning in rw (c .enum-told7 .given .1)) (λ c. unfold scalarMeaning in rw (c .enum-told8 .given .1))
     returns-9)

@@ -3,8 +3,5 @@ use Rattle.msgpack_read_back.proofs.Shortest.{shortest}
 use Rattle.msgpack_read_back.proofs.forms_are_shortest.Statement.{statement}
 use Rattle.msgpack_read_back.proofs.forms_are_shortest.Tie as tie
 
-returns : tie.Need-returns
-returns c = shortest
-
 pub forms-are-shortest-spec : {M : Type 1} → statement M
-forms-are-shortest-spec = tie.close (tie.spec returns)
+forms-are-shortest-spec = tie.close (tie.spec (λ c. shortest))

@@ -3,8 +3,5 @@ use Rattle.msgpack_read_back.proofs.Back.{numbers-read-back}
 use Rattle.msgpack_read_back.proofs.numbers_read_back.Statement.{statement}
 use Rattle.msgpack_read_back.proofs.numbers_read_back.Tie as tie
 
-returns : tie.Need-returns
-returns c = numbers-read-back
-
 pub numbers-read-back-spec : {M : Type 1} → statement M
-numbers-read-back-spec = tie.close (tie.spec returns)
+numbers-read-back-spec = tie.close (tie.spec (λ c. numbers-read-back))

@@ -33,10 +33,6 @@ known c =
     let b : n .0 .0 < 2 ^ (8 * w .0 .0) = rw (n .1) at (q .1) in
     record { there = k .0; count = k .1; bound = Big.small (n .0 .0) (w .0 .0) 4 (f .0) b; little = f .1 }
 
-returns : tie.Need-returns
-unfolding counted
-returns c = rw (c .enum-told .given .1)
-
 returns-2 : tie.Need-returns-2
 returns-2 c =
     let a = c .before .before .before .before .before .before .before .args in
@@ -69,17 +65,6 @@ returns-3 c =
 
 pub counted-at-spec : {M : Type 1} → statement M
 counted-at-spec =
-    tie.close
-    (tie.spec
-    (λ c. search needs)
-    (λ c. search needs)
-    returns
-    (λ c. search needs)
-    (λ c κs. search needs)
-    (λ c. search needs)
-    (λ c. search needs)
-    returns-2
-    add-t9
-    add-t10
-    add-t11
+    tie.close (tie.spec (λ c. search needs) (λ c. search needs) (λ c. unfold counted in rw (c .enum-told .given .1))
+    (λ c. search needs) (λ c κs. search needs) (λ c. search needs) (λ c. search needs) returns-2 add-t9 add-t10 add-t11
     returns-3)

@@ -27,11 +27,4 @@ returns-2 c =
 
 pub header-at-spec : {M : Type 1} → statement M
 header-at-spec =
-    tie.close
-    (tie.spec
-    returns
-    (λ c. search needs)
-    (λ c κs. search needs)
-    (λ c κs. search needs)
-    counted-at-requires
-    returns-2)
+    tie.close (tie.spec returns (λ c. search needs) (λ c κs. search needs) (λ c κs. search needs) counted-at-requires returns-2)

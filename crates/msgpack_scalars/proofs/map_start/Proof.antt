@@ -3,18 +3,7 @@ use borrow.Author.Needs.{needs}
 use Rattle.msgpack_scalars.proofs.map_start.Statement.{statement}
 use Rattle.msgpack_scalars.proofs.map_start.Tie as tie
 
-returns-4 : tie.Need-returns-4
-returns-4 c = rw (c .before .form .given .1)
-
 pub map-start-spec : {M : Type 1} → statement M
 map-start-spec =
-    tie.close
-    (tie.spec
-    (λ c. search needs)
-    (λ c. search needs)
-    (λ c. search needs)
-    (λ c. search needs)
-    (λ c. search needs)
-    (λ c. search needs)
-    (λ c. search needs)
-    returns-4)
+    tie.close (tie.spec (λ c. search needs) (λ c. search needs) (λ c. search needs) (λ c. search needs) (λ c. search needs)
+    (λ c. search needs) (λ c. search needs) (λ c. rw (c .before .form .given .1)))

@@ -11,13 +11,6 @@ use borrow.Author.Needs.{needs}
 use Rattle.msgpack_scalars.proofs.natural_of.Statement.{statement}
 use Rattle.msgpack_scalars.proofs.natural_of.Tie as tie
 
-cast-result : tie.Need-cast-result
-cast-result c = omega (arith, c .shared-slice-known2 .given (c .before .before .before .args .at))
-
-returns : tie.Need-returns
-unfolding naturalOf
-returns c = rw (c .before .if1 .taken) (rw (getD-drop, add-zero))
-
 returns-2 : tie.Need-returns-2
 returns-2 c =
     let a = c .before .before .before .before .before .args in
@@ -31,14 +24,6 @@ returns-3 c =
 
 pub natural-of-spec : {M : Type 1} → statement M
 natural-of-spec =
-    tie.close
-    (tie.spec
-    (λ c. search needs)
-    cast-result
-    returns
-    (λ c. search needs)
-    (λ c κs. search needs)
-    (λ c. search needs)
-    (λ c. search needs)
-    returns-2
-    returns-3)
+    tie.close (tie.spec (λ c. search needs) (λ c. omega (arith, c .shared-slice-known2 .given (c .before .before .before .args .at)))
+    (λ c. unfold naturalOf in rw (c .before .if1 .taken) (rw (getD-drop, add-zero))) (λ c. search needs)
+    (λ c κs. search needs) (λ c. search needs) (λ c. search needs) returns-2 returns-3)

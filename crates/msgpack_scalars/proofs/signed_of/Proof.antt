@@ -27,13 +27,6 @@ known c =
     let p = pow-pos (8 * a .more - 1) in
     (Laws.natural-more (a .s .now) (a .at) (a .more) (n .0 .0) (omega arith) (sym (n .1) ∙ q .0), (e, (omega arith, omega arith)))
 
-sub-t9 : tie.Need-sub-t9
-sub-t9 c = omega (arith, c .shared-slice-known2 .given (c .before .before .before .args .at))
-
-returns : tie.Need-returns
-unfolding signedOf
-returns c = rw (c .before .if1 .taken) (rw (getD-drop, add-zero))
-
 returns-2 : tie.Need-returns-2
 returns-2 c =
     let a = c .before .before .before .before .before .args in
@@ -64,19 +57,7 @@ returns-4 c =
 
 pub signed-of-spec : {M : Type 1} → statement M
 signed-of-spec =
-    tie.close
-    (tie.spec
-    (λ c. search needs)
-    sub-t9
-    (λ c. search needs)
-    returns
-    (λ c. search needs)
-    (λ c κs. search needs)
-    (λ c. search needs)
-    (λ c. search needs)
-    returns-2
-    (λ c κs. search needs)
-    returns-3
-    sub-t13
-    sub-t15
-    returns-4)
+    tie.close (tie.spec (λ c. search needs) (λ c. omega (arith, c .shared-slice-known2 .given (c .before .before .before .args .at)))
+    (λ c. search needs) (λ c. unfold signedOf in rw (c .before .if1 .taken) (rw (getD-drop, add-zero))) (λ c. search needs)
+    (λ c κs. search needs) (λ c. search needs) (λ c. search needs) returns-2 (λ c κs. search needs) returns-3 sub-t13
+    sub-t15 returns-4)

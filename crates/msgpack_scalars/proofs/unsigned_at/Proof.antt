@@ -37,25 +37,9 @@ returns : tie.Need-returns
 unfolding unsigned unsignedBy
 returns c = rw (← (c .before .before .before .before .due-at .ensures), c .before .before .more .given .1, c .natural-of .ensures)
 
-returns-2 : tie.Need-returns-2
-unfolding unsigned unsignedBy
-returns-2 c = rw (← (c .before .before .due-at .ensures), c .enum-told .given .1)
-
-returns-3 : tie.Need-returns-3
-unfolding unsigned unsignedBy
-returns-3 c = rw (← (c .before .before .due-at .ensures), c .enum-told2 .given .1)
-
 pub unsigned-at-spec : {M : Type 1} → statement M
 unsigned-at-spec =
-    tie.close
-    (tie.spec
-    (λ c κs. search needs)
-    (λ c. search needs)
-    natural-of-requires
-    add-t8
-    add-t9
-    (λ c. search needs)
-    (λ c. search needs)
-    returns
-    returns-2
-    returns-3)
+    tie.close (tie.spec (λ c κs. search needs) (λ c. search needs) natural-of-requires add-t8 add-t9 (λ c. search needs)
+    (λ c. search needs) returns
+    (λ c. unfold unsigned unsignedBy in rw (← (c .before .before .due-at .ensures), c .enum-told .given .1))
+    (λ c. unfold unsigned unsignedBy in rw (← (c .before .before .due-at .ensures), c .enum-told2 .given .1)))

@@ -42,17 +42,5 @@ returns-7 c h = absurd (omega arith)
 
 pub common-length-spec : {M : Type 1} → statement M
 common-length-spec =
-    tie.close
-    (tie.spec
-    returns
-    returns-2
-    returns-3
-    (λ c. search needs)
-    (λ c. search needs)
-    returns-4
-    returns-5
-    (λ c. search needs)
-    (λ c. search needs)
-    add-result
-    returns-6
-    returns-7)
+    tie.close (tie.spec returns returns-2 returns-3 (λ c. search needs) (λ c. search needs) returns-4 returns-5 (λ c. search needs)
+    (λ c. search needs) add-result returns-6 returns-7)

@@ -43,14 +43,5 @@ returns-3 c =
 
 pub long-container-spec : {M : Type 1} → statement M
 long-container-spec =
-    tie.close
-    (tie.spec
-    returns
-    (λ c. search needs)
-    returns-2
-    (λ c. search needs)
-    (λ c κs. search needs)
-    mul-t10
-    (λ c. search needs)
-    (λ c. search needs)
-    returns-3)
+    tie.close (tie.spec returns (λ c. search needs) returns-2 (λ c. search needs) (λ c κs. search needs) mul-t10 (λ c. search needs)
+    (λ c. search needs) returns-3)

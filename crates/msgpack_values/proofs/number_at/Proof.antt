@@ -17,9 +17,6 @@ Inv-loop s at width n₀ i₀ n i = (i ≤ width) × (n ≡ number (take i (drop
 abbrev μ-loop : tie.MeasureT-loop
 μ-loop s at width n₀ i₀ n i = width - i
 
-returns : tie.Need-returns Inv-loop μ-loop
-returns c = (simp (lt-leb _ _ (c .if1 .taken)), tt)
-
 returns-2 : tie.Need-returns-2 Inv-loop μ-loop
 returns-2 c =
     let a = c .before .before .before .args in
@@ -29,10 +26,6 @@ returns-3 : tie.Need-returns-3 Inv-loop μ-loop
 returns-3 c =
     let a = c .before .before .before .before .args in
     (simp (lt-leb (a .at + a .width) (length (a .s .now)) (omega arith), and-false), tt)
-
-loop-holds : tie.Need-loop-holds Inv-loop μ-loop
-unfolding number
-loop-holds c = (omega arith, refl, omega arith)
 
 appended-requires : tie.Need-appended-requires Inv-loop μ-loop
 appended-requires c κs =
@@ -60,19 +53,6 @@ returns-4 c =
 
 pub number-at-spec : {M : Type 1} → statement M
 number-at-spec =
-    tie.close
-    (tie.spec
-    Inv-loop
-    μ-loop
-    returns
-    returns-2
-    (λ c. omega arith)
-    returns-3
-    loop-holds
-    (λ c. omega arith)
-    (λ c. omega arith)
-    appended-requires
-    (λ c. omega arith)
-    (λ c. omega arith)
-    loop-again
-    returns-4)
+    tie.close (tie.spec Inv-loop μ-loop (λ c. (simp (lt-leb _ _ (c .if1 .taken)), tt)) returns-2 (λ c. omega arith) returns-3
+    (λ c. unfold number in (omega arith, refl, omega arith)) (λ c. omega arith) (λ c. omega arith) appended-requires
+    (λ c. omega arith) (λ c. omega arith) loop-again returns-4)

@@ -9,9 +9,6 @@ use Rattle.msgpack_values.proofs.Opens as Opens
 use Rattle.msgpack_values.proofs.opened.Statement.{statement}
 use Rattle.msgpack_values.proofs.opened.Tie as tie
 
-returns : tie.Need-returns
-returns c = let a = c .before .before .args in Laws.value-end (a .s .now) (a .at) (a .depth) (c .if1 .taken)
-
 returns-2 : tie.Need-returns-2
 returns-2 c =
     let a = c .before .before .before .before .before .before .args in
@@ -27,9 +24,6 @@ from-80 c =
     let k : c .before .before .scalar-length .result ≡ 0 = omega arith in
     Opens.from-80 _ (c .if4 .left) (sym (c .before .before .scalar-length .ensures) ∙ k)
 
-short-count-requires : tie.Need-short-count-requires
-short-count-requires c κs = (from-80 (c .before), c .before .if4 .left)
-
 returns-5 : tie.Need-returns-5
 returns-5 c =
     let a = c .before .before .before .before .before .before .before .before .args in
@@ -43,18 +37,7 @@ returns-6 c =
 
 pub opened-spec : {M : Type 1} → statement M
 opened-spec =
-    tie.close
-    (tie.spec
-    returns
-    (λ c. search needs)
-    (λ c κs. search needs)
-    (λ c. search needs)
-    returns-2
-    (λ c. search needs)
-    returns-3
-    (λ c κs. search needs)
-    (λ c. search needs)
-    short-count-requires
-    (λ c. search needs)
-    returns-5
-    returns-6)
+    tie.close (tie.spec (λ c. let a = c .before .before .args in Laws.value-end (a .s .now) (a .at) (a .depth) (c .if1 .taken))
+    (λ c. search needs) (λ c κs. search needs) (λ c. search needs) returns-2 (λ c. search needs) returns-3
+    (λ c κs. search needs) (λ c. search needs) (λ c κs. (from-80 (c .before), c .before .if4 .left)) (λ c. search needs)
+    returns-5 returns-6)

@@ -24,13 +24,5 @@ returns-4 c h d =
 
 pub scalar-end-spec : {M : Type 1} → statement M
 scalar-end-spec =
-    tie.close
-    (tie.spec
-    returns
-    (λ c. search needs)
-    (λ c κs. search needs)
-    (λ c. search needs)
-    returns-2
-    returns-3
-    (λ c. search needs)
+    tie.close (tie.spec returns (λ c. search needs) (λ c κs. search needs) (λ c. search needs) returns-2 returns-3 (λ c. search needs)
     returns-4)

@@ -26,13 +26,5 @@ returns-4 c = agrees (λ b. b - 0x9f) (λ b. scalarLength (formOf b)) 0xa0 32 tt
 
 pub scalar-length-spec : {M : Type 1} → statement M
 scalar-length-spec =
-    tie.close
-    (tie.spec
-    returns
-    returns-2
-    returns-3
-    (λ c. search needs)
-    (λ c. search needs)
-    returns-4
-    (λ c κs. search needs)
+    tie.close (tie.spec returns returns-2 returns-3 (λ c. search needs) (λ c. search needs) returns-4 (λ c κs. search needs)
     (λ c. search needs))

@@ -5,14 +5,6 @@ use Rattle.msgpack_writing.specs.Forms.{bigEndian, negativeForm}
 use Rattle.msgpack_writing.proofs.negative_head.Statement.{statement}
 use Rattle.msgpack_writing.proofs.negative_head.Tie as tie
 
-returns : tie.Need-returns
-unfolding bigEndian negativeForm
-returns c = simp (lt-ltb _ _ (c .if1 .taken))
-
-returns-2 : tie.Need-returns-2
-unfolding negativeForm
-returns-2 c = simp (le-ltb _ _ (c .before .if1 .left), lt-ltb _ _ (c .if2 .taken))
-
 returns-3 : tie.Need-returns-3
 unfolding negativeForm
 returns-3 c = simp (le-ltb _ _ (c .before .before .if1 .left), le-ltb _ _ (c .before .if2 .left), lt-ltb _ _ (c .if3 .taken))
@@ -27,16 +19,6 @@ returns-5 c = simp (le-ltb _ _ (c .before .before .before .if1 .left), le-ltb _ 
 
 pub negative-head-spec : {M : Type 1} → statement M
 negative-head-spec =
-    tie.close
-    (tie.spec
-    (λ c. omega arith)
-    (λ c. omega arith)
-    returns
-    (λ c. omega arith)
-    returns-2
-    (λ c. omega arith)
-    returns-3
-    (λ c. omega arith)
-    returns-4
-    (λ c. omega arith)
-    returns-5)
+    tie.close (tie.spec (λ c. omega arith) (λ c. omega arith) (λ c. unfold bigEndian negativeForm in simp (lt-ltb _ _ (c .if1 .taken)))
+    (λ c. omega arith) (λ c. unfold negativeForm in simp (le-ltb _ _ (c .before .if1 .left), lt-ltb _ _ (c .if2 .taken)))
+    (λ c. omega arith) returns-3 (λ c. omega arith) returns-4 (λ c. omega arith) returns-5)

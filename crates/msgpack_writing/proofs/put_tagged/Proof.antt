@@ -15,9 +15,6 @@ Inv-loop out₀ tag n width i₀ high₀ out i high = (i ≤ width) × ((length 
 abbrev μ-loop : tie.MeasureT-loop
 μ-loop out₀ tag n width i₀ high₀ out i high = i
 
-loop-holds : tie.Need-loop-holds Inv-loop μ-loop
-loop-holds c = (omega arith, (refl, refl))
-
 loop-again : tie.Need-loop-again Inv-loop μ-loop
 loop-again c = let l = c .before in (
   omega arith,
@@ -26,9 +23,6 @@ loop-again c = let l = c .before in (
     number-turn (l .loop .i) (l .loop .high) (l .loop .out) (omega arith) (omega arith) ∙ l .loop .inv .1 .1,
   ),
 )
-
-same-length : tie.Need-same-length Inv-loop μ-loop
-same-length c = simp length-set (omega arith)
 
 returns : tie.Need-returns Inv-loop μ-loop
 unfolding bigEndian
@@ -39,16 +33,5 @@ returns c =
 
 pub put-tagged-spec : {M : Type 1} → statement M
 put-tagged-spec =
-    tie.close
-    (tie.spec
-    Inv-loop
-    μ-loop
-    loop-holds
-    (λ c. omega arith)
-    (λ c. omega arith)
-    (λ c. omega arith)
-    (λ c. omega arith)
-    loop-again
-    (λ c. omega arith)
-    same-length
-    returns)
+    tie.close (tie.spec Inv-loop μ-loop (λ c. (omega arith, (refl, refl))) (λ c. omega arith) (λ c. omega arith) (λ c. omega arith)
+    (λ c. omega arith) loop-again (λ c. omega arith) (λ c. simp length-set (omega arith)) returns)

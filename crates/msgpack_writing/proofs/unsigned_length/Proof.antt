@@ -4,11 +4,7 @@ use Rattle.msgpack_writing.proofs.Lengths.{head-length, unsigned-long}
 use Rattle.msgpack_writing.proofs.unsigned_length.Statement.{statement}
 use Rattle.msgpack_writing.proofs.unsigned_length.Tie as tie
 
-add-result : tie.Need-add-result
-add-result c = omega (arith, head-length _ _ _ (c .before .unsigned-head .ensures), unsigned-long (c .before .before .args .n) .1)
-
-returns : tie.Need-returns
-returns c = head-length _ _ _ (c .before .unsigned-head .ensures)
-
 pub unsigned-length-spec : {M : Type 1} → statement M
-unsigned-length-spec = tie.close (tie.spec (λ c κs. omega arith) add-result returns)
+unsigned-length-spec = tie.close (tie.spec (λ c κs. omega arith)
+    (λ c. omega (arith, head-length _ _ _ (c .before .unsigned-head .ensures), unsigned-long (c .before .before .args .n) .1))
+    (λ c. head-length _ _ _ (c .before .unsigned-head .ensures)))

@@ -8,9 +8,6 @@ use Rattle.msgpack_writing.proofs.write_bytes.Tie as tie
 returns : tie.Need-returns
 returns c = refused _ _ _ (omega arith)
 
-returns-2 : tie.Need-returns-2
-returns-2 c = refused _ _ _ (omega arith)
-
 returns-3 : tie.Need-returns-3
 returns-3 c =
     let p = c .before .before in
@@ -19,15 +16,5 @@ returns-3 c =
 
 pub write-bytes-spec : {M : Type 1} → statement M
 write-bytes-spec =
-    tie.close
-    (tie.spec
-    returns
-    (λ c. omega arith)
-    returns-2
-    (λ c. omega arith)
-    (λ c. omega arith)
-    (λ c. omega arith)
-    (λ c κs. omega arith)
-    (λ c. omega arith)
-    (λ c. omega arith)
-    returns-3)
+    tie.close (tie.spec returns (λ c. omega arith) (λ c. refused _ _ _ (omega arith)) (λ c. omega arith) (λ c. omega arith)
+    (λ c. omega arith) (λ c κs. omega arith) (λ c. omega arith) (λ c. omega arith) returns-3)

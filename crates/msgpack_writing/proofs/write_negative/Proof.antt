@@ -5,9 +5,6 @@ use Rattle.msgpack_writing.proofs.Lengths.{negative-none}
 use Rattle.msgpack_writing.proofs.write_negative.Statement.{statement}
 use Rattle.msgpack_writing.proofs.write_negative.Tie as tie
 
-returns : tie.Need-returns
-returns c = nothing _ _ _ (negative-none (c .before .before .args .m) (omega arith))
-
 returns-2 : tie.Need-returns-2
 returns-2 c =
     let w = c .before .before in
@@ -15,4 +12,5 @@ returns-2 c =
 
 pub write-negative-spec : {M : Type 1} → statement M
 write-negative-spec =
-    tie.close (tie.spec returns (λ c κs. omega arith) (λ c κs. omega arith) (λ c. omega arith) returns-2)
+    tie.close (tie.spec (λ c. nothing _ _ _ (negative-none (c .before .before .args .m) (omega arith))) (λ c κs. omega arith)
+    (λ c κs. omega arith) (λ c. omega arith) returns-2)

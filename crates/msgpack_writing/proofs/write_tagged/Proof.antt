@@ -26,16 +26,5 @@ returns-3 c =
 
 pub write-tagged-spec : {M : Type 1} → statement M
 write-tagged-spec =
-    tie.close
-    (tie.spec
-    returns
-    (λ c. omega arith)
-    returns-2
-    (λ c. omega arith)
-    (λ c. omega arith)
-    (λ c. omega arith)
-    (λ c κs. omega arith)
-    (λ c. omega arith)
-    (λ c. omega arith)
-    (λ c. omega arith)
-    returns-3)
+    tie.close (tie.spec returns (λ c. omega arith) returns-2 (λ c. omega arith) (λ c. omega arith) (λ c. omega arith)
+    (λ c κs. omega arith) (λ c. omega arith) (λ c. omega arith) (λ c. omega arith) returns-3)

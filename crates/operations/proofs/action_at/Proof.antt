@@ -6,14 +6,6 @@ use borrow.Author.Needs.{needs}
 use Rattle.operations.proofs.action_at.Statement.{statement}
 use Rattle.operations.proofs.action_at.Tie as tie
 
-returns : tie.Need-returns
-unfolding actionOf
-returns c = rw (c .before .if1 .taken) (c .three-at .ensures)
-
-returns-2 : tie.Need-returns-2
-unfolding actionOf
-returns-2 c = rw (c .before .if2 .taken) (c .five-at .ensures)
-
 returns-3 : tie.Need-returns-3
 returns-3 c =
     let a = c .before .before .before .args in
@@ -21,4 +13,5 @@ returns-3 c =
 
 pub action-at-spec : {M : Type 1} → statement M
 action-at-spec =
-    tie.close (tie.spec (λ c κs. search needs) returns (λ c κs. search needs) returns-2 returns-3)
+    tie.close (tie.spec (λ c κs. search needs) (λ c. unfold actionOf in rw (c .before .if1 .taken) (c .three-at .ensures))
+    (λ c κs. search needs) (λ c. unfold actionOf in rw (c .before .if2 .taken) (c .five-at .ensures)) returns-3)

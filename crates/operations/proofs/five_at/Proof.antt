@@ -32,19 +32,6 @@ returns-5 c =
 
 pub five-at-spec : {M : Type 1} → statement M
 five-at-spec =
-    tie.close
-    (tie.spec
-    returns
-    (λ c κs. search needs)
-    (λ c. search needs)
-    (λ c. search needs)
-    returns-2
-    (λ c κs. search needs)
-    (λ c. search needs)
-    (λ c. search needs)
-    returns-3
-    (λ c κs. search needs)
-    (λ c. search needs)
-    (λ c. search needs)
-    returns-4
-    returns-5)
+    tie.close (tie.spec returns (λ c κs. search needs) (λ c. search needs) (λ c. search needs) returns-2 (λ c κs. search needs)
+    (λ c. search needs) (λ c. search needs) returns-3 (λ c κs. search needs) (λ c. search needs) (λ c. search needs)
+    returns-4 returns-5)

@@ -50,54 +50,6 @@ remove-arm : (c : tie.After-at-least4) {x : Natural} → c .at-least4 .result �
 unfolding three
 remove-arm c q = rw (c .before .match .keys8) (natural-action _ _ Remove remove (λ _ _ h. (refl, h)) (atLeast 1) (c .at-least4 .ensures) q)
 
-returns : tie.Need-returns
-returns c = plus-arm (c .before .before .before) (c .before .z .given .1)
-
-returns-2 : tie.Need-returns-2
-returns-2 c = plus-arm (c .before .before) (c .enum-told .given .1)
-
-returns-3 : tie.Need-returns-3
-returns-3 c = minus-arm (c .before .before .before) (c .before .z2 .given .1)
-
-returns-4 : tie.Need-returns-4
-returns-4 c = minus-arm (c .before .before) (c .enum-told2 .given .1)
-
-returns-5 : tie.Need-returns-5
-returns-5 c = and-arm (c .before .before .before) (c .before .n .given .1)
-
-returns-6 : tie.Need-returns-6
-returns-6 c = and-arm (c .before .before) (c .enum-told3 .given .1)
-
-returns-7 : tie.Need-returns-7
-returns-7 c = xor-arm (c .before .before .before) (c .before .n2 .given .1)
-
-returns-8 : tie.Need-returns-8
-returns-8 c = xor-arm (c .before .before) (c .enum-told4 .given .1)
-
-returns-9 : tie.Need-returns-9
-returns-9 c = or-arm (c .before .before .before) (c .before .n3 .given .1)
-
-returns-10 : tie.Need-returns-10
-returns-10 c = or-arm (c .before .before) (c .enum-told5 .given .1)
-
-returns-11 : tie.Need-returns-11
-returns-11 c = assign-arm (c .before .before .before) (c .before .start .given .1)
-
-returns-12 : tie.Need-returns-12
-returns-12 c = assign-arm (c .before .before) (c .enum-told6 .given .1)
-
-returns-13 : tie.Need-returns-13
-returns-13 c = insert-arm (c .before .before .before) (c .before .start2 .given .1)
-
-returns-14 : tie.Need-returns-14
-returns-14 c = insert-arm (c .before .before) (c .enum-told7 .given .1)
-
-returns-15 : tie.Need-returns-15
-returns-15 c = remove-arm (c .before .before .before) (c .before .n4 .given .1)
-
-returns-16 : tie.Need-returns-16
-returns-16 c = remove-arm (c .before .before) (c .enum-told8 .given .1)
-
 returns-17 : tie.Need-returns-17
 returns-17 c =
     let r = c .match .rest in
@@ -105,46 +57,24 @@ returns-17 c =
 
 pub three-at-spec : {M : Type 1} → statement M
 three-at-spec =
-    tie.close
-    (tie.spec
-    (λ c κs. search needs)
-    (λ c. search needs)
-    (λ c. search needs)
-    (λ c κs. search needs)
-    (λ c. search needs)
-    (λ c. search needs)
-    (λ c κs. search needs)
-    (λ c. search needs)
-    (λ c. search needs)
-    (λ c κs. search needs)
-    (λ c. search needs)
-    (λ c. search needs)
-    (λ c κs. search needs)
-    (λ c. search needs)
-    (λ c. search needs)
-    (λ c κs. search needs)
-    (λ c. search needs)
-    (λ c. search needs)
-    (λ c κs. search needs)
-    (λ c. search needs)
-    (λ c. search needs)
-    (λ c κs. search needs)
-    (λ c. search needs)
-    (λ c. search needs)
-    returns
-    returns-2
-    returns-3
-    returns-4
-    returns-5
-    returns-6
-    returns-7
-    returns-8
-    returns-9
-    returns-10
-    returns-11
-    returns-12
-    returns-13
-    returns-14
-    returns-15
-    returns-16
-    returns-17)
+    tie.close (tie.spec (λ c κs. search needs) (λ c. search needs) (λ c. search needs) (λ c κs. search needs) (λ c. search needs)
+    (λ c. search needs) (λ c κs. search needs) (λ c. search needs) (λ c. search needs) (λ c κs. search needs)
+    (λ c. search needs) (λ c. search needs) (λ c κs. search needs) (λ c. search needs) (λ c. search needs)
+    (λ c κs. search needs) (λ c. search needs) (λ c. search needs) (λ c κs. search needs) (λ c. search needs)
+    (λ c. search needs) (λ c κs. search needs) (λ c. search needs) (λ c. search needs)
+    (λ c. plus-arm (c .before .before .before) (c .before .z .given .1))
+    (λ c. plus-arm (c .before .before) (c .enum-told .given .1))
+    (λ c. minus-arm (c .before .before .before) (c .before .z2 .given .1))
+    (λ c. minus-arm (c .before .before) (c .enum-told2 .given .1))
+    (λ c. and-arm (c .before .before .before) (c .before .n .given .1))
+    (λ c. and-arm (c .before .before) (c .enum-told3 .given .1))
+    (λ c. xor-arm (c .before .before .before) (c .before .n2 .given .1))
+    (λ c. xor-arm (c .before .before) (c .enum-told4 .given .1))
+    (λ c. or-arm (c .before .before .before) (c .before .n3 .given .1))
+    (λ c. or-arm (c .before .before) (c .enum-told5 .given .1))
+    (λ c. assign-arm (c .before .before .before) (c .before .start .given .1))
+    (λ c. assign-arm (c .before .before) (c .enum-told6 .given .1))
+    (λ c. insert-arm (c .before .before .before) (c .before .start2 .given .1))
+    (λ c. insert-arm (c .before .before) (c .enum-told7 .given .1))
+    (λ c. remove-arm (c .before .before .before) (c .before .n4 .given .1))
+    (λ c. remove-arm (c .before .before) (c .enum-told8 .given .1)) returns-17)

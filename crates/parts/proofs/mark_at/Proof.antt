@@ -22,9 +22,6 @@ returns-3 c =
     let a = c .before .before .before .before .args in
     (Reading.mark-other (a .s .now) (a .at) (omega arith) (c .if3 .taken), omega arith)
 
-cast-t9 : tie.Need-cast-t9
-cast-t9 c = omega (arith, c .shared-slice-known2 .given (c .before .before .before .before .before .args .at + 1))
-
 returns-4 : tie.Need-returns-4
 returns-4 c =
     let a = c .before .before .before .before .before .args in
@@ -32,15 +29,6 @@ returns-4 c =
 
 pub mark-at-spec : {M : Type 1} → statement M
 mark-at-spec =
-    tie.close
-    (tie.spec
-    returns
-    (λ c. search needs)
-    returns-2
-    (λ c. search needs)
-    returns-3
-    (λ c. search needs)
-    (λ c. search needs)
-    cast-t9
-    (λ c. search needs)
-    returns-4)
+    tie.close (tie.spec returns (λ c. search needs) returns-2 (λ c. search needs) returns-3 (λ c. search needs) (λ c. search needs)
+    (λ c. omega (arith, c .shared-slice-known2 .given (c .before .before .before .before .before .args .at + 1)))
+    (λ c. search needs) returns-4)

@@ -29,5 +29,5 @@ returns-3 c =
 
 pub string-at-spec : {M : Type 1} → statement M
 string-at-spec =
-    tie.close
-    (tie.spec (λ c κs. search needs) (λ c. search needs) (λ c. search needs) returns sub-if1 returns-2 (λ c. search needs) returns-3)
+    tie.close (tie.spec (λ c κs. search needs) (λ c. search needs) (λ c. search needs) returns sub-if1 returns-2 (λ c. search needs)
+    returns-3)

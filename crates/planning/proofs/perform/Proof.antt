@@ -15,9 +15,6 @@ use Rattle.planning.proofs.perform.Tie as tie
 step : (o : tie.Start) {p : Planned} → o .args .plan ≡ p → (let a = o .args in performed p (a .list .now) (a .work .now) (a .scratch .now) (a .lengths .now) (a .n) ≡ performed (a .plan) (a .list .now) (a .work .now) (a .scratch .now) (a .lengths .now) (a .n))
 step o e = let a = o .args in sym (ap (λ (p : Planned). performed p (a .list .now) (a .work .now) (a .scratch .now) (a .lengths .now) (a .n)) e)
 
-returns : tie.Need-returns
-returns c = stopped (step (c .before .before .before .before .before .before) (c .before .plan .given .1))
-
 returns-2 : tie.Need-returns-2
 returns-2 c =
     let p = c .before .before in
@@ -42,21 +39,7 @@ returns-4 c =
 
 pub perform-spec : {M : Type 1} → statement M
 perform-spec =
-    tie.close
-    (tie.spec
-    (λ c. search needs)
-    (λ c. search needs)
-    (λ c κs. search needs)
-    (λ c κs. search needs)
-    (λ c. search needs)
-    (λ c κs. search needs)
-    (λ c κs. search needs)
-    (λ c. search needs)
-    (λ c κs. search needs)
-    returns
-    (λ c. search needs)
-    returns-2
-    (λ c. search needs)
-    returns-3
-    (λ c. search needs)
-    returns-4)
+    tie.close (tie.spec (λ c. search needs) (λ c. search needs) (λ c κs. search needs) (λ c κs. search needs) (λ c. search needs)
+    (λ c κs. search needs) (λ c κs. search needs) (λ c. search needs) (λ c κs. search needs)
+    (λ c. stopped (step (c .before .before .before .before .before .before) (c .before .plan .given .1)))
+    (λ c. search needs) returns-2 (λ c. search needs) returns-3 (λ c. search needs) returns-4)

@@ -32,13 +32,5 @@ returns-3 c =
 
 pub string-fits-spec : {M : Type 1} → statement M
 string-fits-spec =
-    tie.close
-    (tie.spec
-    (λ c. search needs)
-    returns
-    (λ c. search needs)
-    returns-2
-    (λ c. search needs)
-    (λ c κs. search needs)
-    add-all
+    tie.close (tie.spec (λ c. search needs) returns (λ c. search needs) returns-2 (λ c. search needs) (λ c κs. search needs) add-all
     returns-3)

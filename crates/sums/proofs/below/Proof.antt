@@ -3,11 +3,6 @@ use Rattle.sums.proofs.Signs as Signs
 use Rattle.sums.proofs.below.Statement.{statement}
 use Rattle.sums.proofs.below.Tie as tie
 
-returns : tie.Need-returns
-returns c = Signs.below-is (c .before .args .m) (c .if1 .taken)
-
-returns-2 : tie.Need-returns-2
-returns-2 c = Signs.below-out (c .before .args .m) (c .if1 .left)
-
 pub below-spec : {M : Type 1} → statement M
-below-spec = tie.close (tie.spec returns returns-2)
+below-spec = tie.close (tie.spec (λ c. Signs.below-is (c .before .args .m) (c .if1 .taken))
+    (λ c. Signs.below-out (c .before .args .m) (c .if1 .left)))

@@ -3,8 +3,5 @@ use Rattle.tuples.proofs.Sequences.{same-trace}
 use Rattle.tuples.proofs.every_sequence_is_taken_back.Statement.{statement}
 use Rattle.tuples.proofs.every_sequence_is_taken_back.Tie as tie
 
-returns : tie.Need-returns
-returns c = same-trace
-
 pub every-sequence-is-taken-back-spec : {M : Type 1} → statement M
-every-sequence-is-taken-back-spec = tie.close (tie.spec returns)
+every-sequence-is-taken-back-spec = tie.close (tie.spec (λ c. same-trace))

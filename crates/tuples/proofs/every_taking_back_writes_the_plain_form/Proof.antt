@@ -3,8 +3,5 @@ use Rattle.tuples.proofs.Sequences.{every-kept}
 use Rattle.tuples.proofs.every_taking_back_writes_the_plain_form.Statement.{statement}
 use Rattle.tuples.proofs.every_taking_back_writes_the_plain_form.Tie as tie
 
-returns : tie.Need-returns
-returns c = every-kept
-
 pub every-taking-back-writes-the-plain-form-spec : {M : Type 1} → statement M
-every-taking-back-writes-the-plain-form-spec = tie.close (tie.spec returns)
+every-taking-back-writes-the-plain-form-spec = tie.close (tie.spec (λ c. every-kept))

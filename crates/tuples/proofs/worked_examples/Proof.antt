@@ -3,8 +3,5 @@ use Rattle.tuples.specs.Examples.{worked}
 use Rattle.tuples.proofs.worked_examples.Statement.{statement}
 use Rattle.tuples.proofs.worked_examples.Tie as tie
 
-returns : tie.Need-returns
-returns c = worked
-
 pub worked-examples-spec : {M : Type 1} → statement M
-worked-examples-spec = tie.close (tie.spec returns)
+worked-examples-spec = tie.close (tie.spec (λ c. worked))

@@ -18,12 +18,6 @@ operation o = operationBytes (o .args .mark) (o .args .f) (o .args .argument .no
 whole : (o : tie.Start) → length (operation o) ≡ 3 + length (unsignedForm (o .args .f)) + length (o .args .argument .now)
 whole o = operation-length (o .args .mark) (o .args .f) (o .args .argument .now)
 
-add-long : tie.Need-add-long
-add-long c = let h = unsigned-long (c .before .before .before .args .f) in omega arith
-
-add-long-2 : tie.Need-add-long-2
-add-long-2 c = let h = unsigned-long (c .before .before .before .args .f) in omega arith
-
 returns : tie.Need-returns
 returns c = let o = c .before .before .before .before in let e = whole o in no-room (operation o) (o .args .bytes) (o .args .undo .now) (omega arith)
 
@@ -43,20 +37,7 @@ returns-3 c =
 
 pub lay-operation-spec : {M : Type 1} → statement M
 lay-operation-spec =
-    tie.close
-    (tie.spec
-    (λ c κs. search needs)
-    add-long
-    add-long-2
-    (λ c. search needs)
-    returns
-    (λ c. search needs)
-    (λ c. search needs)
-    returns-2
-    (λ c. search needs)
-    (λ c κs. search needs)
-    (λ c κs. search needs)
-    (λ c κs. search needs)
-    (λ c. search needs)
-    (λ c. search needs)
-    returns-3)
+    tie.close (tie.spec (λ c κs. search needs) (λ c. let h = unsigned-long (c .before .before .before .args .f) in omega arith)
+    (λ c. let h = unsigned-long (c .before .before .before .args .f) in omega arith) (λ c. search needs) returns
+    (λ c. search needs) (λ c. search needs) returns-2 (λ c. search needs) (λ c κs. search needs) (λ c κs. search needs)
+    (λ c κs. search needs) (λ c. search needs) (λ c. search needs) returns-3)

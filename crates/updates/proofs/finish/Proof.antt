@@ -16,9 +16,6 @@ header o = array-long (o .args .laid)
 returns : tie.Need-returns
 returns c = let a = c .before .before .before .before .args in seen-list (a .out .now) (list-many (a .undo .now) (a .laid) (a .bytes) (c .before .if1 .taken)) (seen-refusal LongUndo 0 (a .out .now) (c .refused .ensures))
 
-sub-if2 : tie.Need-sub-if2
-sub-if2 c = let h = header (c .before .before .before .before) in omega arith
-
 returns-2 : tie.Need-returns-2
 returns-2 c =
     let o = c .before .before .before .before .before .before in
@@ -36,20 +33,7 @@ returns-3 c =
 
 pub finish-spec : {M : Type 1} → statement M
 finish-spec =
-    tie.close
-    (tie.spec
-    (λ c κs. search needs)
-    returns
-    (λ c. search needs)
-    (λ c κs. search needs)
-    sub-if2
-    (λ c κs. search needs)
-    returns-2
-    (λ c. search needs)
-    (λ c. search needs)
-    (λ c. search needs)
-    (λ c. search needs)
-    (λ c. search needs)
-    (λ c κs. search needs)
-    (λ c. search needs)
-    returns-3)
+    tie.close (tie.spec (λ c κs. search needs) returns (λ c. search needs) (λ c κs. search needs)
+    (λ c. let h = header (c .before .before .before .before) in omega arith) (λ c κs. search needs) returns-2
+    (λ c. search needs) (λ c. search needs) (λ c. search needs) (λ c. search needs) (λ c. search needs)
+    (λ c κs. search needs) (λ c. search needs) returns-3)

@@ -6,15 +6,6 @@ use borrow.Author.Needs.{needs}
 use Rattle.updates.proofs.undo.Statement.{statement}
 use Rattle.updates.proofs.undo.Tie as tie
 
-returns : tie.Need-returns
-returns c = c .before .before .undo-long .ensures
-
-returns-2 : tie.Need-returns-2
-returns-2 c = c .before .before .undo-long2 .ensures
-
-undo-in-requires : tie.Need-undo-in-requires
-undo-in-requires c κs = let i = c .before .before .before .before .before in (λ _. omega (arith, i .if1 .left), omega arith)
-
 returns-3 : tie.Need-returns-3
 returns-3 c =
     let u = c .before .before .before .before .before .before .before .before .before .before .before in
@@ -27,22 +18,9 @@ returns-4 c = rw (c .before .answer .given .1) at (c .before .before .before .be
 
 pub undo-spec : {M : Type 1} → statement M
 undo-spec =
-    tie.close
-    (tie.spec
-    (λ c κs. search needs)
+    tie.close (tie.spec (λ c κs. search needs) (λ c. search needs) (λ c. c .before .before .undo-long .ensures) (λ c κs. search needs)
+    (λ c. search needs) (λ c. c .before .before .undo-long2 .ensures) (λ c. search needs) (λ c. search needs)
     (λ c. search needs)
-    returns
-    (λ c κs. search needs)
-    (λ c. search needs)
-    returns-2
-    (λ c. search needs)
-    (λ c. search needs)
-    (λ c. search needs)
-    undo-in-requires
-    (λ c. search needs)
-    (λ c. search needs)
-    (λ c κs. search needs)
-    (λ c. search needs)
-    returns-3
-    (λ c. search needs)
+    (λ c κs. let i = c .before .before .before .before .before in (λ _. omega (arith, i .if1 .left), omega arith))
+    (λ c. search needs) (λ c. search needs) (λ c κs. search needs) (λ c. search needs) returns-3 (λ c. search needs)
     returns-4)

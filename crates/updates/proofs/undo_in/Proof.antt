@@ -15,9 +15,6 @@ refusing k = rw (k .before .refusal .given .1) at (k .before .before .before .be
 carried : (k : tie.After-known-told2) → (let r = k .before .before .before .before .before .before .before .before .before in let a = r .before .before .before .before .before .before .before .before .before .before .before .args in let t = r .carry-out .last .1 .1 .1 in Carried (k .before .stage .given .0 .0) (t .0) (t .1 .0) (t .1 .1 .1 .0) (a .tuple .now) (a .list .now) (a .index-base))
 carried k = rw (k .before .stage .given .1) at (k .before .before .before .before .before .before .before .before .before .carry-out .ensures)
 
-cast-refused : tie.Need-cast-refused
-cast-refused c = let h = refusing c in omega (arith, h .0)
-
 returns : tie.Need-returns
 returns c =
     let k = c .before in
@@ -51,29 +48,8 @@ returns-4 c =
 
 pub undo-in-spec : {M : Type 1} → statement M
 undo-in-spec =
-    tie.close
-    (tie.spec
-    (λ c κs. search needs)
-    (λ c. search needs)
-    (λ c. search needs)
-    cast-refused
-    (λ c κs. search needs)
-    (λ c. search needs)
-    (λ c. search needs)
-    (λ c. search needs)
-    (λ c. search needs)
-    returns
-    (λ c κs. search needs)
-    (λ c. search needs)
-    (λ c. search needs)
-    (λ c. search needs)
-    returns-2
-    (λ c. search needs)
-    (λ c. search needs)
-    (λ c. search needs)
-    returns-3
-    (λ c. search needs)
-    (λ c. search needs)
-    (λ c. search needs)
-    (λ c. search needs)
-    returns-4)
+    tie.close (tie.spec (λ c κs. search needs) (λ c. search needs) (λ c. search needs) (λ c. let h = refusing c in omega (arith, h .0))
+    (λ c κs. search needs) (λ c. search needs) (λ c. search needs) (λ c. search needs) (λ c. search needs) returns
+    (λ c κs. search needs) (λ c. search needs) (λ c. search needs) (λ c. search needs) returns-2 (λ c. search needs)
+    (λ c. search needs) (λ c. search needs) returns-3 (λ c. search needs) (λ c. search needs) (λ c. search needs)
+    (λ c. search needs) returns-4)

@@ -9,9 +9,6 @@ use borrow.Author.Needs.{needs}
 use Rattle.updates.proofs.undo_long.Statement.{statement}
 use Rattle.updates.proofs.undo_long.Tie as tie
 
-undo-in-requires : tie.Need-undo-in-requires
-undo-in-requires c κs = (λ h. omega (arith, h), omega arith)
-
 returns : tie.Need-returns
 returns c =
     let u = c .before .before .before .before .before .before .before .before in
@@ -24,16 +21,5 @@ returns-2 c = rw (c .before .answer .given .1) at (c .before .before .before .be
 
 pub undo-long-spec : {M : Type 1} → statement M
 undo-long-spec =
-    tie.close
-    (tie.spec
-    (λ c. search needs)
-    (λ c. search needs)
-    (λ c. search needs)
-    undo-in-requires
-    (λ c. search needs)
-    (λ c. search needs)
-    (λ c κs. search needs)
-    (λ c. search needs)
-    returns
-    (λ c. search needs)
-    returns-2)
+    tie.close (tie.spec (λ c. search needs) (λ c. search needs) (λ c. search needs) (λ c κs. (λ h. omega (arith, h), omega arith))
+    (λ c. search needs) (λ c. search needs) (λ c κs. search needs) (λ c. search needs) returns (λ c. search needs) returns-2)

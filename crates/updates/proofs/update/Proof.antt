@@ -6,15 +6,6 @@ use borrow.Author.Needs.{needs}
 use Rattle.updates.proofs.update.Statement.{statement}
 use Rattle.updates.proofs.update.Tie as tie
 
-returns : tie.Need-returns
-returns c = c .before .before .update-long .ensures
-
-returns-2 : tie.Need-returns-2
-returns-2 c = c .before .before .update-long2 .ensures
-
-update-in-requires : tie.Need-update-in-requires
-update-in-requires c κs = let i = c .before .before .before .before in (λ _. omega (arith, i .if1 .left), omega arith)
-
 returns-3 : tie.Need-returns-3
 returns-3 c =
     let u = c .before .before .before .before .before .before .before .before .before .before in
@@ -22,26 +13,11 @@ returns-3 c =
     let n = rw (c .before .before .before .before .enum-told .given .1) at (u .update-in .ensures) in
     c .before .before .update-long3 .ensures ∙ ap (updateCall (a .tuple .now) (a .list .now) (a .index-base)) (n .0)
 
-returns-4 : tie.Need-returns-4
-returns-4 c = rw (c .before .answer .given .1) at (c .before .before .before .before .before .before .before .update-in .ensures)
-
 pub update-spec : {M : Type 1} → statement M
 update-spec =
-    tie.close
-    (tie.spec
-    (λ c κs. search needs)
+    tie.close (tie.spec (λ c κs. search needs) (λ c. search needs) (λ c. c .before .before .update-long .ensures)
+    (λ c κs. search needs) (λ c. search needs) (λ c. c .before .before .update-long2 .ensures) (λ c. search needs)
     (λ c. search needs)
-    returns
-    (λ c κs. search needs)
-    (λ c. search needs)
-    returns-2
-    (λ c. search needs)
-    (λ c. search needs)
-    update-in-requires
-    (λ c. search needs)
-    (λ c. search needs)
-    (λ c κs. search needs)
-    (λ c. search needs)
-    returns-3
-    (λ c. search needs)
-    returns-4)
+    (λ c κs. let i = c .before .before .before .before in (λ _. omega (arith, i .if1 .left), omega arith))
+    (λ c. search needs) (λ c. search needs) (λ c κs. search needs) (λ c. search needs) returns-3 (λ c. search needs)
+    (λ c. rw (c .before .answer .given .1) at (c .before .before .before .before .before .before .before .update-in .ensures)))

@@ -16,21 +16,6 @@ refusing k = rw (k .before .refusal .given .1) at (k .before .before .before .be
 carried : (k : tie.After-known-told2) → (let r = k .before .before .before .before .before .before .before .before in let a = r .before .before .before .before .before .before .before .before .before .before .args in let t = r .carry-out .last .1 .1 .1 in Carried (k .before .stage .given .0 .0) (t .0) (t .1 .0) (t .1 .1 .1 .0) (a .tuple .now) (a .list .now) (a .index-base))
 carried k = rw (k .before .stage .given .1) at (k .before .before .before .before .before .before .before .before .carry-out .ensures)
 
-cast-refused : tie.Need-cast-refused
-cast-refused c = let h = refusing c in omega (arith, h .0)
-
-slice-aggregate-end-of : tie.Need-slice-aggregate-end-of
-slice-aggregate-end-of c = sym (carried (c .before) .fit .rows)
-
-cast-deliver : tie.Need-cast-deliver
-cast-deliver c = let t = carried (c .before .before) in omega (arith, t .fit .few)
-
-slice-reshare-prefix-deliver : tie.Need-slice-reshare-prefix-deliver
-slice-reshare-prefix-deliver c = rw (c .end-of .ensures) (end-inside (carried (c .before .before) .fit))
-
-slice-aggregate-deliver : tie.Need-slice-aggregate-deliver
-slice-aggregate-deliver c = sym (length-take-le _ _ (rw (c .before .end-of .ensures) (end-inside (carried (c .before .before .before) .fit))))
-
 returns : tie.Need-returns
 returns c =
     let r = c .before .before .before .before .before .before .before in
@@ -55,29 +40,11 @@ returns-3 c =
 
 pub update-in-spec : {M : Type 1} → statement M
 update-in-spec =
-    tie.close
-    (tie.spec
-    (λ c. search needs)
-    (λ c. search needs)
-    (λ c κs. search needs)
-    (λ c. search needs)
-    (λ c. search needs)
-    cast-refused
-    (λ c κs. search needs)
-    (λ c. search needs)
-    slice-aggregate-end-of
-    (λ c κs. search needs)
-    cast-deliver
-    slice-reshare-prefix-deliver
-    slice-aggregate-deliver
-    (λ c κs. search needs)
-    (λ c. search needs)
-    (λ c. search needs)
-    returns
-    (λ c. search needs)
-    (λ c. search needs)
-    returns-2
-    (λ c. search needs)
-    (λ c. search needs)
-    (λ c. search needs)
-    returns-3)
+    tie.close (tie.spec (λ c. search needs) (λ c. search needs) (λ c κs. search needs) (λ c. search needs) (λ c. search needs)
+    (λ c. let h = refusing c in omega (arith, h .0)) (λ c κs. search needs) (λ c. search needs)
+    (λ c. sym (carried (c .before) .fit .rows)) (λ c κs. search needs)
+    (λ c. let t = carried (c .before .before) in omega (arith, t .fit .few))
+    (λ c. rw (c .end-of .ensures) (end-inside (carried (c .before .before) .fit)))
+    (λ c. sym (length-take-le _ _ (rw (c .before .end-of .ensures) (end-inside (carried (c .before .before .before) .fit)))))
+    (λ c κs. search needs) (λ c. search needs) (λ c. search needs) returns (λ c. search needs) (λ c. search needs) returns-2
+    (λ c. search needs) (λ c. search needs) (λ c. search needs) returns-3)

@@ -4,28 +4,13 @@ use borrow.Author.Needs.{needs}
 use Rattle.updates.proofs.update_long.Statement.{statement}
 use Rattle.updates.proofs.update_long.Tie as tie
 
-update-in-requires : tie.Need-update-in-requires
-update-in-requires c κs = (λ h. omega (arith, h), omega arith)
-
 returns : tie.Need-returns
 returns c =
     let n = rw (c .before .enum-told .given .1) at (c .before .before .before .before .before .before .before .update-in .ensures) in
     absurd (omega (arith, n .1))
 
-returns-2 : tie.Need-returns-2
-returns-2 c = rw (c .before .answer .given .1) at (c .before .before .before .before .before .before .before .update-in .ensures)
-
 pub update-long-spec : {M : Type 1} → statement M
 update-long-spec =
-    tie.close
-    (tie.spec
-    (λ c. search needs)
-    (λ c. search needs)
-    update-in-requires
-    (λ c. search needs)
-    (λ c. search needs)
-    (λ c κs. search needs)
-    (λ c. search needs)
-    returns
-    (λ c. search needs)
-    returns-2)
+    tie.close (tie.spec (λ c. search needs) (λ c. search needs) (λ c κs. (λ h. omega (arith, h), omega arith)) (λ c. search needs)
+    (λ c. search needs) (λ c κs. search needs) (λ c. search needs) returns (λ c. search needs)
+    (λ c. rw (c .before .answer .given .1) at (c .before .before .before .before .before .before .before .update-in .ensures)))

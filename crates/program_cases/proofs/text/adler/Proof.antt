@@ -11,26 +11,9 @@ Inv-loop s low₀ high₀ i₀ low high i = (low < 65521) × (high < 65521)
 abbrev μ-loop : tie.MeasureT-loop
 μ-loop s low₀ high₀ i₀ low high i = length s - i
 
-cast-low : tie.Need-cast-low Inv-loop μ-loop
-cast-low c = omega (arith, c .shared-slice-known .given (c .before .before .loop .i))
-
-add-low : tie.Need-add-low Inv-loop μ-loop
-add-low c = omega (arith, c .shared-slice-known .given (c .before .before .loop .i))
-
 pub adler-spec : {M : Type 1} → statement M
 adler-spec =
-    tie.close
-    (tie.spec
-    Inv-loop
-    μ-loop
-    (λ c. search needs)
-    (λ c. search needs)
-    cast-low
-    add-low
-    (λ c. search needs)
-    (λ c. search needs)
-    (λ c. search needs)
-    (λ c. search needs)
-    (λ c. search needs)
-    (λ c. search needs)
-    (λ c. search needs))
+    tie.close (tie.spec Inv-loop μ-loop (λ c. search needs) (λ c. search needs)
+    (λ c. omega (arith, c .shared-slice-known .given (c .before .before .loop .i)))
+    (λ c. omega (arith, c .shared-slice-known .given (c .before .before .loop .i))) (λ c. search needs) (λ c. search needs)
+    (λ c. search needs) (λ c. search needs) (λ c. search needs) (λ c. search needs) (λ c. search needs))

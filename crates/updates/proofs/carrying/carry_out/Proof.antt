@@ -43,9 +43,6 @@ run-requires c κs =
     let l = k .before .before .before .before .before .before .before .before .before in
     (held (k .before .before .before .before) .1, omega (arith, l .load .kept .1 .0, l .before .before .before .before .before .before .before .before .pre .1), due k .few)
 
-filled-requires : tie.Need-filled-requires
-filled-requires c κs = let r = c .before .before .before .before .before .before in told _ _ _ _ _ _ _ _ (r .run .result) (r .run .ensures)
-
 returns-3 : tie.Need-returns-3
 returns-3 c =
     let r = c .before .before .before .before .before .before .before .before in
@@ -65,25 +62,8 @@ returns-4 c =
 
 pub carry-out-spec : {M : Type 1} → statement M
 carry-out-spec =
-    tie.close
-    (tie.spec
-    (λ c κs. search needs)
-    (λ c. search needs)
-    (λ c. search needs)
-    (λ c. search needs)
-    returns
-    (λ c κs. search needs)
-    (λ c. search needs)
-    (λ c. search needs)
-    (λ c. search needs)
-    returns-2
-    run-requires
-    filled-requires
-    (λ c. search needs)
-    (λ c. search needs)
-    (λ c. search needs)
-    returns-3
-    (λ c. search needs)
-    (λ c. search needs)
-    (λ c. search needs)
-    returns-4)
+    tie.close (tie.spec (λ c κs. search needs) (λ c. search needs) (λ c. search needs) (λ c. search needs) returns
+    (λ c κs. search needs) (λ c. search needs) (λ c. search needs) (λ c. search needs) returns-2 run-requires
+    (λ c κs. let r = c .before .before .before .before .before .before in told _ _ _ _ _ _ _ _ (r .run .result) (r .run .ensures))
+    (λ c. search needs) (λ c. search needs) (λ c. search needs) returns-3 (λ c. search needs) (λ c. search needs)
+    (λ c. search needs) returns-4)

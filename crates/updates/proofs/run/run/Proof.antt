@@ -41,9 +41,6 @@ returns c =
     let d : Steps (length (l .loop .scratch)) (Stop (k .refusal .given .0 .0)) (t .step .last .1 .1 .0) (t .step .last .1 .1 .1 .0) (t .step .last .1 .1 .1 .1 .1 .0) (a .list .now) (l .loop .undo) z (operation (a .base) (drop (z .at) (a .list .now))) (fieldsIn (l .loop .scratch) (l .loop .lengths) (z .fields)) = rw (k .refusal .given .1) at (t .step .ensures) in
     (run-stops (l .loop .inv .4) (omega arith) (rw (t .step .kept .1 .1 .0) at (sym (c .before .certain .ensures) ∙ c .if1 .taken)) d, omega arith)
 
-returns-2 : tie.Need-returns-2 Inv-loop μ-loop
-returns-2 c = unsure (c .before .before .before .refusal .given .0 .0) _ (sym (c .before .certain .ensures) ∙ c .if1 .left)
-
 loop-again : tie.Need-loop-again Inv-loop μ-loop
 loop-again c =
     let t = c .before .before .before .before .before .before .before .before .before in
@@ -55,32 +52,10 @@ loop-again c =
     let o : Onward (c .before .next .given .0 .0) (t .step .last .1 .1 .0) (t .step .last .1 .1 .1 .0) (t .step .last .1 .1 .1 .1 .1 .0) (a .list .now) (l .loop .undo) z (operation (a .base) (drop (z .at) (a .list .now))) (fieldsIn (l .loop .scratch) (l .loop .lengths) (z .fields)) = rw (c .before .next .given .1) at (t .step .ensures) in
     (omega arith, k .1 .1 .1 .1 .1 .0 ∙ v .1, omega (arith, o .few, v .2), o .fit, run-goes (v .4) (omega arith) o, k .1 .1 .0 ∙ v .5, k .1 .1 .1 .1 .0 ∙ v .6)
 
-returns-3 : tie.Need-returns-3 Inv-loop μ-loop
-returns-3 c = let l = c .before in run-through (l .loop .inv .4) (omega arith) (l .loop .inv .3)
-
 pub run-spec : {M : Type 1} → statement M
 run-spec =
-    tie.close
-    (tie.spec
-    Inv-loop
-    μ-loop
-    loop-holds
-    step-requires
-    (λ c. search needs)
-    (λ c κs. search needs)
-    (λ c. search needs)
-    (λ c. search needs)
-    (λ c. search needs)
-    returns
-    (λ c. search needs)
-    (λ c. search needs)
-    (λ c. search needs)
-    returns-2
-    (λ c. search needs)
-    (λ c. search needs)
-    (λ c. search needs)
-    loop-again
-    (λ c. search needs)
-    (λ c. search needs)
-    (λ c. search needs)
-    returns-3)
+    tie.close (tie.spec Inv-loop μ-loop loop-holds step-requires (λ c. search needs) (λ c κs. search needs) (λ c. search needs)
+    (λ c. search needs) (λ c. search needs) returns (λ c. search needs) (λ c. search needs) (λ c. search needs)
+    (λ c. unsure (c .before .before .before .refusal .given .0 .0) _ (sym (c .before .certain .ensures) ∙ c .if1 .left))
+    (λ c. search needs) (λ c. search needs) (λ c. search needs) loop-again (λ c. search needs) (λ c. search needs)
+    (λ c. search needs) (λ c. let l = c .before in run-through (l .loop .inv .4) (omega arith) (l .loop .inv .3)))
