@@ -34,10 +34,10 @@ use Rattle.msgpack_scalars.specs.declared.Int.{Int}
 use Rattle.msgpack_scalars.specs.declared.Int.the-variants.{FromZero, BelowZero}
 use Rattle.msgpack_scalars.specs.declared.Integer.the-variants.{Is as IsInt}
 use Rattle.msgpack_scalars.specs.declared.Header.the-variants.{Is as IsHeader}
-use Rattle.msgpack_writing.specs.Forms.{bigEndian, tagged, unsignedForm, negativeForm, stringHeader, countHeader, arrayHeader, mapHeader}
+use Rattle.msgpack_writing.specs.Forms.{bigEndian, tagged, unsignedForm, negativeForm, stringHeader, stringForm, countHeader, arrayHeader, mapHeader}
 use Rattle.msgpack_writing.proofs.Choice.{by-ltb}
 use Rattle.msgpack_writing.proofs.Lengths.{length-bigEndian}
-use Rattle.msgpack_read_back.specs.Claims.{integerForm, InRange, stringForm, NumbersReadBack, StringsReadBack, ContainersReadBack}
+use Rattle.msgpack_read_back.specs.Claims.{integerForm, InRange, NumbersReadBack, StringsReadBack, ContainersReadBack}
 use Rattle.msgpack_read_back.proofs.Digits.{number-bigEndian}
 
 -- ---- the bytes of a number, and what follows them

@@ -16,7 +16,7 @@ use Rattle.msgpack_scalars.specs.declared.Int.{Int}
 use Rattle.msgpack_scalars.specs.declared.Int.the-variants.{FromZero, BelowZero}
 use Rattle.msgpack_scalars.specs.declared.Integer.the-variants.{Is as IsInteger}
 use Rattle.msgpack_scalars.specs.declared.Header.the-variants.{Is as IsHeader}
-use Rattle.msgpack_writing.specs.Forms.{unsignedForm, negativeForm, stringHeader, arrayHeader, mapHeader}
+use Rattle.msgpack_writing.specs.Forms.{unsignedForm, negativeForm, stringHeader, stringForm, arrayHeader, mapHeader}
 
 -- "unsigned forms from 0 up, signed forms below 0"
 abbrev pub integerForm : Int → Bytes
@@ -27,10 +27,6 @@ integerForm (BelowZero m) = negativeForm m
 abbrev pub InRange : Int → Type 0
 InRange (FromZero n) = n < 2 ^ 64
 InRange (BelowZero m) = m < 2 ^ 63
-
--- a string with its header
-abbrev pub stringForm : Bytes → Bytes
-stringForm s = stringHeader (length s) ++ s
 
 -- each byte is below 256, as those of every slice are
 abbrev pub Octets : Bytes → Type 0

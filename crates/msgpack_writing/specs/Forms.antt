@@ -2,6 +2,7 @@
 use Prim.Native.Nat.{ℕ, zero, suc, _+_, _-_, _/_, _%_, _^_}
 use mathlib.Core.List.{[], _∷_, _++_}
 use lib.Dec.{ltb}
+use lib.ListN.{length}
 use Rattle.msgpack_first_bytes.specs.Bytes.{Bytes, pick}
 
 -- the w low bytes of n, the most significant first
@@ -35,6 +36,10 @@ unfoldable pub stringHeader : ℕ → Bytes
 stringHeader n =
     pick (ltb n 32) ((0xa0 + n) ∷ [])
     (pick (ltb n (2 ^ 8)) (tagged 0xd9 1 n) (pick (ltb n (2 ^ 16)) (tagged 0xda 2 n) (tagged 0xdb 4 n)))
+
+-- a string with its header
+abbrev pub stringForm : Bytes → Bytes
+stringForm s = stringHeader (length s) ++ s
 
 -- a count of an array or a map: the first bytes of its short forms begin at `short`, those of its longer ones at `long`
 abbrev pub countHeader : ℕ → ℕ → ℕ → Bytes

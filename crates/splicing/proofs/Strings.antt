@@ -12,12 +12,11 @@ use lib.Dec.{leb}
 use lib.ListN.{length, take, drop, length-append, length-drop, drop-of-length-le}
 use lib.Seq.{drop-drop, take-all, take-nil}
 use Rattle.msgpack_first_bytes.specs.Bytes.{Bytes}
-use Rattle.msgpack_writing.specs.Forms.{stringHeader}
+use Rattle.msgpack_writing.specs.Forms.{stringHeader, stringForm}
 use Rattle.msgpack_writing.specs.Put.{next}
 use Rattle.msgpack_writing.specs.Put as Written
 use Rattle.msgpack_writing.proofs.Choice.{either}
 use Rattle.msgpack_writing.proofs.Put.{Wrote, wrote, step}
-use Rattle.msgpack_read_back.specs.Claims.{stringForm}
 use Rattle.tuples.specs.Limits.{maxTuple}
 use Rattle.tuples.specs.Decoding.{Got, string}
 use Rattle.tuples.specs.Operation.{splice}

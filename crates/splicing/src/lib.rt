@@ -7,7 +7,7 @@ ghost use mathlib.Core.Path.{_≡_};
 ghost use mathlib.Core.List.{[], _∷_, _++_};
 ghost use mathlib.Core.Option.{some};
 ghost use Prim.Native.Nat.{min};
-ghost use Rattle.msgpack_read_back.specs.Claims.{stringForm};
+ghost use Rattle.msgpack_writing.specs.Forms.{stringForm};
 ghost use Rattle.tuples.specs.Operation.{splice};
 ghost use Rattle.tuples.specs.Edit.{put, editAt};
 ghost use Rattle.parts.specs.Part.{part};

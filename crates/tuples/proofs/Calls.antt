@@ -4,8 +4,8 @@ use mathlib.Core.Bool.{Bool, true, false, _&&_}
 use mathlib.Core.List.{List}
 use mathlib.Core.Option.{Option, none, some}
 use Prim.Native.Nat.{ℕ, _≤_}
-use borrow.Author.Tests.{leb-true, le-leb}
-use lib.Dec.{leb}
+use borrow.Author.Tests.{leb-true}
+use lib.Dec.{leb, eqb}
 use lib.ListN.{length, drop}
 use lib.Seq.{take-append-seam}
 use Rattle.msgpack_first_bytes.specs.Bytes.{Bytes, pick}
@@ -14,7 +14,7 @@ use Rattle.tuples.specs.Tuple.{Fields, plain, fieldsOf}
 use Rattle.tuples.specs.Operation.{Operation, operationsOf}
 use Rattle.tuples.specs.Edit.{plans, Run, refused, done, run, undoOf}
 use Rattle.tuples.specs.Call.{numberOf, Outcome, refusal, bytes, judged, onRun, updateOf, limitedList, undoListOf, update, undo, refusing, writing, delivered}
-use Rattle.tuples.specs.Sequence.{wrote}
+use Rattle.tuples.specs.Sequence.{State, onAnswer}
 use Rattle.tuples.specs.declared.Refusal.{Refusal}
 use Rattle.tuples.specs.declared.Refusal.the-variants.{BadTuple, BadList, NoField, Unsuited, OutOfRange, TooLarge, LongUndo, ShortBuffer}
 use Rattle.tuples.proofs.Cases.{impossible, both-hold}
@@ -68,35 +68,25 @@ went-in t l b w u h k = from-tuple (fieldsOf t) refl (operationsOf b l) refl h k
     from-tuple (some fs) e none q h k = impossible (cc)
     from-tuple (some fs) e (some os) q h k = from-run fs os e q (run 0 (plans os) fs) refl h k
 
--- ---- what a call wrote
+-- ---- the state after a call
 
-pub delivered-room : (w out : Bytes) → length w ≤ length out → delivered (bytes w) out ≡ writing w out
-unfolding delivered
-delivered-room w out h = rw (le-leb _ _ h)
+numbered : (k : Refusal) → eqb (numberOf k) 0 ≡ false
+numbered BadTuple = refl
+numbered BadList = refl
+numbered NoField = refl
+numbered Unsuited = refl
+numbered OutOfRange = refl
+numbered TooLarge = refl
+numbered LongUndo = refl
+numbered ShortBuffer = refl
 
-refused-wrote : (k : Refusal) (i : ℕ) (out : Bytes) → wrote (refusing k i out) ≡ none
-unfolding wrote refusing numberOf
-refused-wrote BadTuple i out = refl
-refused-wrote BadList i out = refl
-refused-wrote NoField i out = refl
-refused-wrote Unsuited i out = refl
-refused-wrote OutOfRange i out = refl
-refused-wrote TooLarge i out = refl
-refused-wrote LongUndo i out = refl
-refused-wrote ShortBuffer i out = refl
-
-never-wrote : {A : Type 0} (k : Refusal) (i : ℕ) (out w : Bytes) → wrote (refusing k i out) ≡ some w → A
-never-wrote k i out w h = let e = refused-wrote k i out in impossible (cc)
-
--- only what was to be written is
-pub delivered-wrote : (o : Outcome) (out w : Bytes) → wrote (delivered o out) ≡ some w → o ≡ bytes w
-unfolding delivered
-delivered-wrote (refusal k i) out w h = never-wrote k i out w h
-delivered-wrote (bytes v) out w h = go (leb (length v) (length out)) h
+-- it is the one before, or made of exactly what was to be written
+pub by-answer : (P : State → Type 0) (o : Outcome) (out : Bytes) (s : State) (next : Bytes → State) → P s → ((w : Bytes) → o ≡ bytes w → P (next w))
+    → P (onAnswer (delivered o out) s next)
+unfolding onAnswer delivered refusing writing
+by-answer P (refusal k i) out s next p q = rw (numbered k) p
+by-answer P (bytes w) out s next p q = go (leb (length w) (length out))
   where
-    wrote-it : wrote (writing v out) ≡ some v
-    wrote-it = unfold wrote writing in ap some (take-append-seam v (drop (length v) out))
-
-    go : (b : Bool) → wrote (pick b (writing v out) (refusing ShortBuffer 0 out)) ≡ some w → bytes v ≡ bytes w
-    go true h = let e = wrote-it in let q : v ≡ w = cc in ap bytes q
-    go false h = never-wrote ShortBuffer 0 out w h
+    go : (b : Bool) → P (onAnswer (pick b (writing w out) (refusing ShortBuffer 0 out)) s next)
+    go true = rw (take-append-seam w (drop (length w) out)) (q w refl)
+    go false = p

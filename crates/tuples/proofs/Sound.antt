@@ -17,8 +17,7 @@ use Rattle.msgpack_values.specs.Value.{value, one, byForm, sized, payload}
 use Rattle.msgpack_values.specs.Pieces.{Single}
 use Rattle.msgpack_scalars.specs.declared.Int.{Int}
 use Rattle.msgpack_scalars.specs.declared.Int.the-variants.{FromZero, BelowZero}
-use Rattle.msgpack_writing.specs.Forms.{bigEndian, unsignedForm, stringHeader}
-use Rattle.msgpack_read_back.specs.Claims.{stringForm}
+use Rattle.msgpack_writing.specs.Forms.{bigEndian, unsignedForm, stringHeader, stringForm}
 use Rattle.msgpack_read_back.proofs.Back.{integer-whole, string-whole}
 use Rattle.msgpack_writing.proofs.Choice.{by-leb, by-ltb, either}
 use Rattle.tuples.specs.Limits.{maxTuple, fieldDepth}

@@ -14,7 +14,7 @@ use Rattle.tuples.specs.declared.Refusal.{Refusal}
 use Rattle.tuples.specs.declared.Refusal.the-variants.{BadTuple, BadList, NoField, Unsuited, OutOfRange, TooLarge, LongUndo, ShortBuffer}
 
 -- 01's table of refusal numbers
-unfoldable pub numberOf : Refusal → ℕ
+abbrev pub numberOf : Refusal → ℕ
 numberOf BadTuple = 11
 numberOf BadList = 12
 numberOf NoField = 13

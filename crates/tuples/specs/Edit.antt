@@ -10,8 +10,7 @@ use lib.ListN.{length, getD, take, drop}
 use Rattle.msgpack_first_bytes.specs.Bytes.{Bytes, pick}
 use Rattle.msgpack_scalars.specs.declared.Int.{Int}
 use Rattle.msgpack_scalars.specs.declared.Int.the-variants.{FromZero, BelowZero}
-use Rattle.msgpack_writing.specs.Forms.{unsignedForm, negativeForm, stringHeader, arrayHeader}
-use Rattle.msgpack_read_back.specs.Claims.{stringForm}
+use Rattle.msgpack_writing.specs.Forms.{unsignedForm, negativeForm, stringHeader, stringForm, arrayHeader}
 use Rattle.tuples.specs.Limits.{maxFields, maxTuple}
 use Rattle.tuples.specs.Tuple.{Fields, plain}
 use Rattle.tuples.specs.Decoding.{Got, fails, gets, Decoder, anyInteger, atLeast, string}

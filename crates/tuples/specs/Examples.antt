@@ -1,4 +1,4 @@
--- Worked cases, computed: 01's examples marked (P), and one for each rule beside them.
+-- Worked cases, computed: one for each rule, and a sequence. (01's examples marked (P) stand in the crate known_examples.)
 use Prim.Native.Nat.{ℕ, _-_}
 use mathlib.Core.Path.{_≡_, refl}
 use mathlib.Core.List.{List, [], _∷_, _++_, map}
@@ -16,8 +16,8 @@ use Rattle.tuples.specs.Tuple.{plain, filling, values, fieldsBy, fieldsO
 use Rattle.tuples.specs.Decoding.{onGot, then, made, nothing, valueFrom, anyValue, integerFrom, anyInteger, less, floor, atLeast, position, stringFrom, string, countFrom, count, mark}
 use Rattle.tuples.specs.Operation.{three, five, actionOf, operation, before, andMore, operations, listBy, operationsOf}
 use Rattle.tuples.specs.Edit.{asℤ, ranged, spliced, became, suited, altered, editAt, fieldAt, planOf, plans, fits, limited, perform, step, run, operationBytes, restored, inverse, undoOf}
-use Rattle.tuples.specs.Call.{numberOf, judged, onRun, updateOf, limitedList, undoListOf, update, undo, Result, refusing, writing, delivered, updateCall, undoCall}
-use Rattle.tuples.specs.Sequence.{Event, change, back, Shown, start, plainBy, plainOf, wrote, byCalls, byMemory, entered, taken, takenTop, after, callTop, callOf, listing, undoneOf, trace}
+use Rattle.tuples.specs.Call.{judged, onRun, updateOf, limitedList, undoListOf, update, undo, Result, refusing, writing, delivered, updateCall, undoCall}
+use Rattle.tuples.specs.Sequence.{Event, updating, takingBack, OnPile, State, start, onAnswer, goesIn, takeBackCall, takesBack, stateAfter}
 
 -- the buffer that each call is lent, and what its caller sees of w written into it, and of a refusal
 abbrev pub room : Bytes
@@ -54,25 +54,6 @@ computed c =
       undoes = undoCall (c .tuple) (c .list) (c .base) room;
     }
 
--- 01, "From the yard: known examples", those marked (P)
-abbrev pub known : List Case
-known =
-    case (0x93 ∷ 0x05 ∷ 0xa2 ∷ 0x61 ∷ 0x62 ∷ 0xc3 ∷ []) (0x91 ∷ 0x93 ∷ 0xa1 ∷ 0x5e ∷ 0x00 ∷ 0x01 ∷ []) 0
-    (0x93 ∷ 0x04 ∷ 0xa2 ∷ 0x61 ∷ 0x62 ∷ 0xc3 ∷ []) (0x91 ∷ 0x93 ∷ 0xa1 ∷ 0x3d ∷ 0x00 ∷ 0x05 ∷ [])
-    ∷ case (0x91 ∷ 0xcd ∷ 0x00 ∷ 0x05 ∷ []) (0x91 ∷ 0x93 ∷ 0xa1 ∷ 0x2b ∷ 0x00 ∷ 0x01 ∷ []) 0
-    (0x91 ∷ 0x06 ∷ []) (0x91 ∷ 0x93 ∷ 0xa1 ∷ 0x3d ∷ 0x00 ∷ 0xcd ∷ 0x00 ∷ 0x05 ∷ [])
-    ∷ case (0x93 ∷ 0x01 ∷ 0x02 ∷ 0x03 ∷ []) (0x91 ∷ 0x93 ∷ 0xa1 ∷ 0x23 ∷ 0x01 ∷ 0x05 ∷ []) 0
-    (0x91 ∷ 0x01 ∷ []) (0x92 ∷ 0x93 ∷ 0xa1 ∷ 0x21 ∷ 0x01 ∷ 0x03 ∷ 0x93 ∷ 0xa1 ∷ 0x21 ∷ 0x01 ∷ 0x02 ∷ [])
-    ∷ case (0x91 ∷ 0x01 ∷ []) (0x91 ∷ 0x93 ∷ 0xa1 ∷ 0x3d ∷ 0x01 ∷ 0x09 ∷ []) 0
-    (0x92 ∷ 0x01 ∷ 0x09 ∷ []) (0x91 ∷ 0x93 ∷ 0xa1 ∷ 0x23 ∷ 0x01 ∷ 0x01 ∷ [])
-    ∷ case (0x91 ∷ 0xa3 ∷ 0x61 ∷ 0x62 ∷ 0x63 ∷ []) (0x91 ∷ 0x95 ∷ 0xa1 ∷ 0x3a ∷ 0x00 ∷ 0x01 ∷ 0x01 ∷ 0xa2 ∷ 0x58 ∷ 0x59 ∷ []) 0
-    (0x91 ∷ 0xa4 ∷ 0x61 ∷ 0x58 ∷ 0x59 ∷ 0x63 ∷ []) (0x91 ∷ 0x93 ∷ 0xa1 ∷ 0x3d ∷ 0x00 ∷ 0xa3 ∷ 0x61 ∷ 0x62 ∷ 0x63 ∷ [])
-    ∷ case (0x91 ∷ 0x00 ∷ []) (0x91 ∷ 0x93 ∷ 0xa1 ∷ 0x2d ∷ 0x00 ∷ 0x01 ∷ []) 0
-    (0x91 ∷ 0xff ∷ []) (0x91 ∷ 0x93 ∷ 0xa1 ∷ 0x3d ∷ 0x00 ∷ 0x00 ∷ [])
-    ∷ refusedCase (0x91 ∷ 0xcf ∷ replicate 8 0xff) (0x91 ∷ 0x93 ∷ 0xa1 ∷ 0x2b ∷ 0x00 ∷ 0x01 ∷ []) 0 15 0
-    ∷ case (0x90 ∷ []) (0x90 ∷ []) 0 (0x90 ∷ []) (0x90 ∷ [])
-    ∷ []
-
 abbrev pub longUndo : Bytes
 longUndo = 0xdc ∷ 0x00 ∷ 0x21 ∷ joined (replicate 32 (0x93 ∷ 0xa1 ∷ 0x21 ∷ 0x00 ∷ 0x07 ∷ [])) ++ (0x93 ∷ 0xa1 ∷ 0x23 ∷ 0x00 ∷ 0x21 ∷ [])
 
@@ -100,11 +81,14 @@ rules =
     (0x91 ∷ 0x0d ∷ []) (0x91 ∷ 0x93 ∷ 0xa1 ∷ 0x3d ∷ 0x00 ∷ 0x05 ∷ [])
     ∷ case (0x91 ∷ 0x05 ∷ []) (0x91 ∷ 0x93 ∷ 0xa1 ∷ 0x21 ∷ 0x00 ∷ 0xc0 ∷ []) 0
     (0x92 ∷ 0xc0 ∷ 0x05 ∷ []) (0x91 ∷ 0x93 ∷ 0xa1 ∷ 0x23 ∷ 0x00 ∷ 0x01 ∷ [])
+    -- an assigned field is the argument's own bytes, though a shorter form would do
+    ∷ case (0x91 ∷ 0x01 ∷ []) (0x91 ∷ 0x93 ∷ 0xa1 ∷ 0x3d ∷ 0x00 ∷ 0xcc ∷ 0x05 ∷ []) 0
+    (0x91 ∷ 0xcc ∷ 0x05 ∷ []) (0x91 ∷ 0x93 ∷ 0xa1 ∷ 0x3d ∷ 0x00 ∷ 0x01 ∷ [])
     -- fields 12 and 13 deep
     ∷ case (0x91 ∷ replicate 12 0x91 ++ (0x07 ∷ [])) (0x90 ∷ []) 0
     (0x91 ∷ replicate 12 0x91 ++ (0x07 ∷ [])) (0x90 ∷ [])
     ∷ refusedCase (0x91 ∷ replicate 13 0x91 ++ (0x07 ∷ [])) (0x90 ∷ []) 0 11 0
-    -- 11: no array, bytes left over, too few, broken
+    -- 11: no array, bytes left over, too few, broken, also where the list is outside the rules too
     ∷ refusedCase [] (0x90 ∷ []) 0 11 0
     ∷ refusedCase (0x81 ∷ 0x01 ∷ 0x02 ∷ []) (0x90 ∷ []) 0 11 0
     ∷ refusedCase (0x91 ∷ 0x01 ∷ 0x02 ∷ []) (0x90 ∷ []) 0 11 0
@@ -140,7 +124,7 @@ rules =
     ∷ refusedCase (0xdc ∷ 0x00 ∷ 0x40 ∷ replicate 64 0x07) (0x91 ∷ 0x93 ∷ 0xa1 ∷ 0x21 ∷ 0x00 ∷ 0x01 ∷ []) 0 16 0
     -- 16 is counted with the shortest header of the fields after the operation: the 16th field makes it two bytes longer
     ∷ refusedCase (0x9f ∷ replicate 14 0x07 ++ (0xc5 ∷ 0x3f ∷ 0xec ∷ replicate 0x3fec 0x00)) (0x91 ∷ 0x93 ∷ 0xa1 ∷ 0x3d ∷ 0x0f ∷ 0x09 ∷ []) 0 16 0
-    -- 32 fields inserted, then all 33 removed: an undo list of 65 operations
+    -- 32 fields inserted, then all 33 removed: an undo list of 65 operations, which does not fit the buffer either
     ∷ record { tuple = 0x91 ∷ 0x01 ∷ []; list = longUndo; base = 0; updates = accepted (0x90 ∷ []); undoes = refused 17 0 }
     ∷ []
 
@@ -151,36 +135,61 @@ first = 0xdd ∷ 0x00 ∷ 0x00 ∷ 0x00 ∷ 0x01 ∷ 0xcd ∷ 0x00 ∷ 0x05 ∷ 
 
 abbrev pub events : List Event
 events =
-    change (0x91 ∷ 0x93 ∷ 0xa1 ∷ 0x2b ∷ 0x00 ∷ 0x01 ∷ []) 0 room room
-    ∷ change (0x91 ∷ 0x93 ∷ 0xa1 ∷ 0x23 ∷ 0x07 ∷ 0x01 ∷ []) 0 room room
-    ∷ change (0x91 ∷ 0x93 ∷ 0xa1 ∷ 0x21 ∷ 0x01 ∷ 0x2a ∷ []) 1 room []
-    ∷ change longUndo 0 room room
-    ∷ change (0x91 ∷ 0x93 ∷ 0xa1 ∷ 0x23 ∷ 0x00 ∷ 0x01 ∷ []) 0 (0x00 ∷ []) room
-    ∷ back (0x00 ∷ [])
-    ∷ back room
-    ∷ back (replicate 4 0x00)
-    ∷ back room
+    updating (0x91 ∷ 0x93 ∷ 0xa1 ∷ 0x2b ∷ 0x00 ∷ 0x01 ∷ []) 0 room
+    ∷ updating (0x91 ∷ 0x93 ∷ 0xa1 ∷ 0x23 ∷ 0x07 ∷ 0x01 ∷ []) 0 room
+    ∷ updating (0x91 ∷ 0x93 ∷ 0xa1 ∷ 0x21 ∷ 0x01 ∷ 0x2a ∷ []) 1 room
+    ∷ updating longUndo 0 room
+    ∷ updating (0x91 ∷ 0x93 ∷ 0xa1 ∷ 0x23 ∷ 0x00 ∷ 0x01 ∷ []) 0 (0x00 ∷ [])
+    ∷ takingBack (0x00 ∷ [])
+    ∷ takingBack room
+    ∷ takingBack (replicate 4 0xee)
+    ∷ takingBack room
     ∷ []
+
+-- of an event: what its call answers, if there is one; the tuple and the undo lists of the pile that it leaves
+pub record Shown : Type 0 where
+  pub answer : Option Result
+  pub tuple : Bytes
+  pub lists : List Bytes
+
+abbrev pub shown : Option Result → Bytes → List Bytes → Shown
+shown a t ls = record { answer = a; tuple = t; lists = ls }
+
+abbrev pub topAnswer : State → List OnPile → Bytes → Option Result
+topAnswer s [] out = none
+topAnswer s (top ∷ below) out = some (takeBackCall s top out)
+
+abbrev pub answerOf : State → Event → Option Result
+answerOf s (updating l b out) = some (updateCall (s .tuple) l b out)
+answerOf s (takingBack out) = topAnswer s (s .pile) out
+
+unfoldable pub showing : State → List Event → List Shown
+showing s [] = []
+showing s (e ∷ es) = shown (answerOf s e) (stateAfter s e .tuple) (map (λ (x : OnPile). x .list) (stateAfter s e .pile)) ∷ showing (stateAfter s e) es
 
 abbrev pub tooShort : Bytes → Result
 tooShort out = record { number = 18; operation = 0; length = 0; buffer = out }
 
-abbrev pub shown : Option Result → Option Result → Bytes → Shown
-shown c u t = record { call = c; undone = u; tuple = t }
+-- the undo lists of the two updates that go in
+abbrev pub undoPlus : Bytes
+undoPlus = 0x91 ∷ 0x93 ∷ 0xa1 ∷ 0x3d ∷ 0x00 ∷ 0xcd ∷ 0x00 ∷ 0x05 ∷ []
 
-abbrev pub shows : List Shown
-shows =
-    shown (some (accepted (0x91 ∷ 0x06 ∷ []))) (some (accepted (0x91 ∷ 0x93 ∷ 0xa1 ∷ 0x3d ∷ 0x00 ∷ 0xcd ∷ 0x00 ∷ 0x05 ∷ []))) (0x91 ∷ 0x06 ∷ [])
-    ∷ shown (some (refused 13 0)) none (0x91 ∷ 0x06 ∷ [])
-    ∷ shown (some (accepted (0x92 ∷ 0x2a ∷ 0x06 ∷ []))) (some (tooShort [])) (0x92 ∷ 0x2a ∷ 0x06 ∷ [])
-    ∷ shown (some (accepted (0x91 ∷ 0x06 ∷ []))) none (0x92 ∷ 0x2a ∷ 0x06 ∷ [])
-    ∷ shown (some (tooShort (0x00 ∷ []))) none (0x92 ∷ 0x2a ∷ 0x06 ∷ [])
-    ∷ shown (some (tooShort (0x00 ∷ []))) none (0x92 ∷ 0x2a ∷ 0x06 ∷ [])
-    ∷ shown (some (accepted (0x91 ∷ 0x06 ∷ []))) none (0x91 ∷ 0x06 ∷ [])
-    ∷ shown (some (record { number = 0; operation = 0; length = 4; buffer = 0x91 ∷ 0xcd ∷ 0x00 ∷ 0x05 ∷ [] })) none (0x91 ∷ 0xcd ∷ 0x00 ∷ 0x05 ∷ [])
-    ∷ shown none none (0x91 ∷ 0xcd ∷ 0x00 ∷ 0x05 ∷ [])
+abbrev pub undoInsert : Bytes
+undoInsert = 0x91 ∷ 0x93 ∷ 0xa1 ∷ 0x23 ∷ 0x00 ∷ 0x01 ∷ []
+
+abbrev pub sequence : List Shown
+sequence =
+    shown (some (accepted (0x91 ∷ 0x06 ∷ []))) (0x91 ∷ 0x06 ∷ []) (undoPlus ∷ [])
+    ∷ shown (some (refused 13 0)) (0x91 ∷ 0x06 ∷ []) (undoPlus ∷ [])
+    ∷ shown (some (accepted (0x92 ∷ 0x2a ∷ 0x06 ∷ []))) (0x92 ∷ 0x2a ∷ 0x06 ∷ []) (undoInsert ∷ undoPlus ∷ [])
+    ∷ shown (some (accepted (0x91 ∷ 0x06 ∷ []))) (0x92 ∷ 0x2a ∷ 0x06 ∷ []) (undoInsert ∷ undoPlus ∷ [])
+    ∷ shown (some (tooShort (0x00 ∷ []))) (0x92 ∷ 0x2a ∷ 0x06 ∷ []) (undoInsert ∷ undoPlus ∷ [])
+    ∷ shown (some (tooShort (0x00 ∷ []))) (0x92 ∷ 0x2a ∷ 0x06 ∷ []) (undoInsert ∷ undoPlus ∷ [])
+    ∷ shown (some (accepted (0x91 ∷ 0x06 ∷ []))) (0x91 ∷ 0x06 ∷ []) (undoPlus ∷ [])
+    ∷ shown (some (record { number = 0; operation = 0; length = 4; buffer = 0x91 ∷ 0xcd ∷ 0x00 ∷ 0x05 ∷ [] })) (0x91 ∷ 0xcd ∷ 0x00 ∷ 0x05 ∷ []) []
+    ∷ shown none (0x91 ∷ 0xcd ∷ 0x00 ∷ 0x05 ∷ []) []
     ∷ []
 
-pub worked : (map computed known ≡ known) × ((map computed rules ≡ rules) × ((trace byCalls (start first) events ≡ shows) × (trace byMemory (start first) events ≡ shows)))
-unfolding formOf sameKind number payload sized items byForm one tooDeep container value pieces joined dueIn due naturalOf unsignedBy unsigned twosComplement signedOf signedBy signed adding integer counted header bigEndian unsignedForm negativeForm stringHeader arrayHeader plain filling values fieldsBy fieldsOf onGot then made nothing valueFrom anyValue integerFrom anyInteger less floor atLeast position stringFrom string countFrom count mark three five actionOf operation before andMore operations listBy operationsOf asℤ ranged spliced became suited altered editAt fieldAt planOf plans fits limited perform step run operationBytes restored inverse undoOf numberOf judged onRun updateOf limitedList undoListOf update undo refusing writing delivered updateCall undoCall start plainBy plainOf wrote byCalls byMemory entered taken takenTop after callTop callOf listing undoneOf trace
-worked = (refl, (refl, (refl, refl)))
+pub worked : (map computed rules ≡ rules) × (showing (start first) events ≡ sequence)
+unfolding formOf sameKind number payload sized items byForm one tooDeep container value pieces joined dueIn due naturalOf unsignedBy unsigned twosComplement signedOf signedBy signed adding integer counted header bigEndian unsignedForm negativeForm stringHeader arrayHeader plain filling values fieldsBy fieldsOf onGot then made nothing valueFrom anyValue integerFrom anyInteger less floor atLeast position stringFrom string countFrom count mark three five actionOf operation before andMore operations listBy operationsOf asℤ ranged spliced became suited altered editAt fieldAt planOf plans fits limited perform step run operationBytes restored inverse undoOf judged onRun updateOf limitedList undoListOf update undo refusing writing delivered updateCall undoCall start onAnswer goesIn takesBack stateAfter showing
+worked = (refl, refl)
