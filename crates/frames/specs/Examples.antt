@@ -1,4 +1,4 @@
--- Worked cases, computed. Each call shows a list of numbers, so that cases of other calls join the same table in a crate above.
+-- Worked cases, computed: what reading answers, by its number; a record read and written. (01's examples marked (P) stand whole in the crate known_examples.)
 use Prim.Native.Nat.{ℕ}
 use mathlib.Core.Bool.{Bool, true, false}
 use mathlib.Core.List.{List, [], _∷_, _++_, map}
@@ -22,21 +22,13 @@ use Rattle.frames.specs.Cascade.{check, given, whole}
 use Rattle.frames.specs.Reading.{refuse, accept, suited, byPlaces, byEntries, bodyValue, bodyEntries, inFrame, sizeBy, sizeOf, bySize, frameRead}
 use Rattle.frames.specs.Writing.{onto, pairs, flat, mapForm, contents, frameForm, isWhole, sound, each, refused, written, writeItems, frameWrite}
 
--- what a call shows, and what it must show
-pub record Case : Type 0 where
-  pub shows : List ℕ
-  pub due : List ℕ
+-- bytes, and the number that reading them answers
+record Case : Type 0 where
+  bytes : Bytes
+  number : ℕ
 
-abbrev pub case : List ℕ → List ℕ → Case
-case a b = record { shows = a; due = b }
-
--- reading: the number alone
-abbrev pub read : Bytes → ℕ → Case
-read s n = case (frameRead s .number ∷ []) (n ∷ [])
-
--- 01, 'From the yard', the frames marked (P)
-abbrev pub yard : List Case
-yard = read [] 1 ∷ read (0x00 ∷ []) 3 ∷ read (0xe0 ∷ []) 2 ∷ read (0xce ∷ 0x00 ∷ 0x00 ∷ 0xea ∷ 0x61 ∷ []) 3 ∷ []
+abbrev read : Bytes → ℕ → Case
+read s n = record { bytes = s; number = n }
 
 -- the 32-byte select of document 001
 abbrev select : Bytes
@@ -57,8 +49,13 @@ deep v = 0x91 ∷ 0x91 ∷ 0x91 ∷ 0x91 ∷ 0x91 ∷ 0x91 ∷ 0x91 ∷ 0x91 ∷
 
 abbrev cases : List Case
 cases =
-    yard
-    ++ (read (0xce ∷ 0x00 ∷ 0x00 ∷ 0xea ∷ 0x60 ∷ []) 1
+    -- no size number; sizes that are impossible, though nothing follows; the greatest
+    read [] 1
+    ∷ read (0xe0 ∷ []) 2
+    ∷ read (0x00 ∷ []) 3
+    ∷ read (0xce ∷ 0x00 ∷ 0x00 ∷ 0xea ∷ 0x61 ∷ []) 3
+    ∷ read (0xce ∷ 0x00 ∷ 0x00 ∷ 0xea ∷ 0x60 ∷ []) 1
+    -- the select; its last byte cut off; more bytes after it
     ∷ read select 0
     ∷ read (take 31 select) 1
     ∷ read (select ++ (0xc1 ∷ [])) 0
@@ -115,9 +112,9 @@ cases =
     ∷ read (framed (0x81 ∷ 0x00 ∷ 0x01 ∷ [])) 10
     ∷ read (framed (0x81 ∷ 0x00 ∷ 0xcd ∷ 0x8f ∷ 0xff ∷ [])) 10
     ∷ read (framed (0x81 ∷ 0x00 ∷ 0xcd ∷ 0x8f ∷ 0xff ∷ 0x81 ∷ 0x31 ∷ 0xa0 ∷ [])) 0
-    ∷ [])
+    ∷ []
 
-examples : map (λ (c : Case). c .shows) cases ≡ map (λ (c : Case). c .due) cases
+examples : map (λ (c : Case). frameRead (c .bytes) .number) cases ≡ map (λ (c : Case). c .number) cases
 unfolding frameRead bySize sizeOf sizeBy inFrame bodyEntries bodyValue byEntries byPlaces suited accept refuse whole given check find distinct has keys entriesAt entriesBy entries entryAt keyed required isError among codes emptyFrame frameAt codeIn optional headerItems bodyItems numberHeld placeHeld heldAt heldIn numbered suits opened numberIn natural view all value one container tooDeep byForm items sized payload sum formOf sameKind unsigned unsignedBy due dueIn naturalOf header counted
 examples = refl
 

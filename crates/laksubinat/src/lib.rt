@@ -6,10 +6,15 @@ use msgpack_meanings::Meaning;
 use msgpack_scalars::Int;
 use tuples::Answer;
 ghost use mathlib.Core.Path.{_≡_};
+ghost use mathlib.Core.List.{List};
+ghost use mathlib.Core.Option.{some};
+ghost use Rattle.msgpack_first_bytes.specs.Bytes.{Bytes};
 ghost use Rattle.msgpack_meanings.specs.Meaning.{alone};
 ghost use Rattle.frames.specs.Reading.{frameRead};
 ghost use Rattle.frames.specs.Writing.{frameWriteCall};
+ghost use Rattle.tuples.specs.Tuple.{Fields, fieldsOf};
 ghost use Rattle.tuples.specs.Call.{updateCall, undoCall};
+ghost use Rattle.tuples.specs.Sequence.{Event, Demand3};
 ghost use Rattle.answers.specs.Seen.{seen};
 ghost use Rattle.laksubinat.specs.Shown.{bit, held, placed, integerShown, meaningShown, shown, result};
 
@@ -141,3 +146,9 @@ pub extern "C" fn lak_undo(tuple: &[u8], list: &[u8], index_base: u64, out: &mut
 {
     updates::undo(tuple, list, index_base, out)
 }
+
+// Demand 3, of `lak_update` and `lak_undo`, whose answers are `updateCall` and `undoCall`: in every
+// sequence of updates and takings back, what is taken back is the plain form of what was given.
+pub fn demand_3()
+    ensures { λ _. ⌜ ((t : Bytes) (fs : Fields) (es : List Event) → fieldsOf t ≡ some fs → Demand3 t fs es) ⌝ }
+{}

@@ -8,7 +8,7 @@ use lib.ListN.{length}
 use Rattle.msgpack_first_bytes.specs.Bytes.{Bytes}
 use Rattle.tuples.specs.Tuple.{Fields, plain, fieldsOf}
 use Rattle.tuples.specs.Call.{Outcome, refusal, bytes, update, undo, delivered, updateCall, undoCall}
-use Rattle.tuples.specs.Sequence.{Event, updating, takingBack, OnPile, State, start, goesIn, takeBackCall, takesBack, stateAfter, stateAfterAll, Holds, EachHolds, Demand3}
+use Rattle.tuples.specs.Sequence.{Event, updating, takingBack, OnPile, State, start, goesIn, takeBackCall, afterTakingBack, stateAfter, stateAfterAll, Holds, EachHolds, Demand3}
 use Rattle.tuples.proofs.Cases.{impossible}
 use Rattle.tuples.proofs.Tuple.{fields-legal, read-plain}
 use Rattle.tuples.proofs.Calls.{TakesBack, went-in, by-answer}
@@ -52,8 +52,8 @@ module _ (first : Fields) where
     unfolding updateCall
     top-plain x below out c = ap (λ (o : Outcome). delivered o out) (c .2 (s .tuple) (k .reads))
 
-    takes-back-sure : (pile : List OnPile) (out : Bytes) → Chain (k .cur) pile → Sure (takesBack s pile out)
-    unfolding takesBack
+    takes-back-sure : (pile : List OnPile) (out : Bytes) → Chain (k .cur) pile → Sure (afterTakingBack s pile out)
+    unfolding afterTakingBack
     takes-back-sure [] out c = k
     takes-back-sure (x ∷ below) out c =
         rw (top-plain x below out c) (by-answer Sure (bytes (plain (c .0))) out s _ k (λ w e.

@@ -17,7 +17,7 @@ use Rattle.tuples.specs.Decoding.{onGot, then, made, nothing, valueFrom,
 use Rattle.tuples.specs.Operation.{three, five, actionOf, operation, before, andMore, operations, listBy, operationsOf}
 use Rattle.tuples.specs.Edit.{asℤ, ranged, spliced, became, suited, altered, editAt, fieldAt, planOf, plans, fits, limited, perform, step, run, operationBytes, restored, inverse, undoOf}
 use Rattle.tuples.specs.Call.{judged, onRun, updateOf, limitedList, undoListOf, update, undo, Result, refusing, writing, delivered, updateCall, undoCall}
-use Rattle.tuples.specs.Sequence.{Event, updating, takingBack, OnPile, State, start, onAnswer, goesIn, takeBackCall, takesBack, stateAfter}
+use Rattle.tuples.specs.Sequence.{Event, updating, takingBack, OnPile, State, start, onAnswer, goesIn, takeBackCall, afterTakingBack, stateAfter}
 
 -- the buffer that each call is lent, and what its caller sees of w written into it, and of a refusal
 abbrev pub room : Bytes
@@ -191,5 +191,5 @@ sequence =
     ∷ []
 
 pub worked : (map computed rules ≡ rules) × (showing (start first) events ≡ sequence)
-unfolding formOf sameKind number payload sized items byForm one tooDeep container value pieces joined dueIn due naturalOf unsignedBy unsigned twosComplement signedOf signedBy signed adding integer counted header bigEndian unsignedForm negativeForm stringHeader arrayHeader plain filling values fieldsBy fieldsOf onGot then made nothing valueFrom anyValue integerFrom anyInteger less floor atLeast position stringFrom string countFrom count mark three five actionOf operation before andMore operations listBy operationsOf asℤ ranged spliced became suited altered editAt fieldAt planOf plans fits limited perform step run operationBytes restored inverse undoOf judged onRun updateOf limitedList undoListOf update undo refusing writing delivered updateCall undoCall start onAnswer goesIn takesBack stateAfter showing
+unfolding formOf sameKind number payload sized items byForm one tooDeep container value pieces joined dueIn due naturalOf unsignedBy unsigned twosComplement signedOf signedBy signed adding integer counted header bigEndian unsignedForm negativeForm stringHeader arrayHeader plain filling values fieldsBy fieldsOf onGot then made nothing valueFrom anyValue integerFrom anyInteger less floor atLeast position stringFrom string countFrom count mark three five actionOf operation before andMore operations listBy operationsOf asℤ ranged spliced became suited altered editAt fieldAt planOf plans fits limited perform step run operationBytes restored inverse undoOf judged onRun updateOf limitedList undoListOf update undo refusing writing delivered updateCall undoCall start onAnswer goesIn afterTakingBack stateAfter showing
 worked = (refl, refl)

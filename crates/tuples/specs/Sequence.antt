@@ -44,25 +44,27 @@ takeBackCall s top out = updateCall (s .tuple) (top .list) 0 out
 
 -- "Where it answers 0, the bytes written become the tuple and the top list leaves the pile; refused, both stay. On an empty pile there is
 -- no call and nothing changes."
-unfoldable pub takesBack : State → List OnPile → Bytes → State
-takesBack s [] out = s
-takesBack s (top ∷ below) out = onAnswer (takeBackCall s top out) s (λ w. record { tuple = w; pile = below })
+unfoldable pub afterTakingBack : State → List OnPile → Bytes → State
+afterTakingBack s [] out = s
+afterTakingBack s (top ∷ below) out = onAnswer (takeBackCall s top out) s (λ w. record { tuple = w; pile = below })
 
 -- "An update is the update call on that tuple with any list, index base and output buffer."
 unfoldable pub stateAfter : State → Event → State
 stateAfter s (updating l b out) = onAnswer (updateCall (s .tuple) l b out) s (goesIn s (undo (s .tuple) l b))
-stateAfter s (takingBack out) = takesBack s (s .pile) out
+stateAfter s (takingBack out) = afterTakingBack s (s .pile) out
 
 unfoldable pub stateAfterAll : State → List Event → State
 stateAfterAll s [] = s
 stateAfterAll s (e ∷ es) = stateAfterAll (stateAfter s e) es
 
--- "The undo call on the inputs of an update that went in, with a buffer at least as long as its undo list, answers 0 and writes exactly
--- that list": of an update that laid `top` on the pile. "A taking back whose buffer is at least as long as the plain form of the tuple that
--- its update was given answers 0 and writes exactly that plain form." With a shorter buffer each is refused with 18, and never otherwise.
+-- what is claimed of an event in the state s; with a shorter buffer than is asked for `delivered` says 18, and there is no other refusal
 abbrev pub Holds : State → Event → Type 0
+-- "The undo call on the inputs of an update that went in, with a buffer at least as long as its undo list, answers 0 and writes exactly
+-- that list": one that went in laid `top` on the pile
 Holds s (updating l b out) =
     (top : OnPile) → stateAfter s (updating l b out) .pile ≡ top ∷ s .pile → (room : Bytes) → undoCall (s .tuple) l b room ≡ delivered (bytes (top .list)) room
+-- "a taking back whose buffer is at least as long as the plain form of the tuple that its update was given answers 0 and writes exactly
+-- that plain form"
 Holds s (takingBack out) =
     (top : OnPile) (below : List OnPile) → s .pile ≡ top ∷ below
     → (fs : Fields) × (fieldsOf (top .given) ≡ some fs) × (takeBackCall s top out ≡ delivered (bytes (plain fs)) out)
