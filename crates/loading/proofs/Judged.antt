@@ -23,7 +23,7 @@ use Rattle.msgpack_scalars.specs.declared.Header.the-variants.{Is, Other}
 use Rattle.msgpack_writing.specs.Put.{put, next}
 use Rattle.msgpack_writing.proofs.Put.{Wrote, wrote}
 use Rattle.tuples.specs.Limits.{maxFields, maxTuple, fieldDepth}
-use Rattle.tuples.specs.Tuple.{Fields, filling, values, fieldsBy, fieldsOf}
+use Rattle.tuples.specs.Tuple.{Fields, filling, fieldsFilling, fieldsBy, fieldsOf}
 use Rattle.engine.specs.Held.{lengthsOf, over}
 use Rattle.loading.specs.Loading.{measuredBy, measured, loadable, measuredIn, Laid}
 use Rattle.loading.specs.declared.Loaded.{Loaded}
@@ -33,16 +33,16 @@ use Rattle.loading.proofs.Measures.{whole-at}
 -- ---- n values from a place on, by what the reader says of them
 
 module _ (n : ℕ) (s : Bytes) where
-  not-whole : {p : ℕ} → items (value fieldDepth) n s ≡ Broken p → none ≡ values n s
-  unfolding values filling
+  not-whole : {p : ℕ} → items (value fieldDepth) n s ≡ Broken p → none ≡ fieldsFilling n s
+  unfolding fieldsFilling filling
   not-whole e = rw e
 
-  left-over : {k : ℕ} → items (value fieldDepth) n s ≡ Whole k → (k ≡ length s → ⊥) → none ≡ values n s
-  unfolding values filling
+  left-over : {k : ℕ} → items (value fieldDepth) n s ≡ Whole k → (k ≡ length s → ⊥) → none ≡ fieldsFilling n s
+  unfolding fieldsFilling filling
   left-over e f = rw (e, ne-eqb _ _ f)
 
-  filled : {k : ℕ} → items (value fieldDepth) n s ≡ Whole k → k ≡ length s → some (pieces (value fieldDepth) n s) ≡ values n s
-  unfolding values filling
+  filled : {k : ℕ} → items (value fieldDepth) n s ≡ Whole k → k ≡ length s → some (pieces (value fieldDepth) n s) ≡ fieldsFilling n s
+  unfolding fieldsFilling filling
   filled e f = rw (e, eq-eqb _ _ f)
 
 refused : {s : Bytes} {l l₀ : List ℕ} {t : Option Fields} {found : Fields} → none ≡ t → l ≡ over (lengthsOf found) l₀ → Laid Bad s l s l₀ t found
@@ -50,22 +50,22 @@ refused e q = rw (← e) (record { answer = refl; bytes = refl; table = q })
 
 module _ (n at : ℕ) (t : Bytes) {s : Bytes} {l l₀ : List ℕ} (m : l ≡ over (lengthsOf (pieces (value fieldDepth) n (drop at t))) l₀) where
   pub laid-broken : {p : ℕ} → Broken p ≡ shift at (items (value fieldDepth) n (drop at t))
-      → Laid Bad s l s l₀ (values n (drop at t)) (pieces (value fieldDepth) n (drop at t))
+      → Laid Bad s l s l₀ (fieldsFilling n (drop at t)) (pieces (value fieldDepth) n (drop at t))
   laid-broken {p} q = refused (go (items (value fieldDepth) n (drop at t)) refl q) m
     where
-      go : (r : Read) → items (value fieldDepth) n (drop at t) ≡ r → Broken p ≡ shift at r → none ≡ values n (drop at t)
+      go : (r : Read) → items (value fieldDepth) n (drop at t) ≡ r → Broken p ≡ shift at r → none ≡ fieldsFilling n (drop at t)
       go (Whole k) e q = absurd (let z : _≡_ {A = ℕ} 0 1 = cc in omega arith)
       go (Broken k) e q = not-whole n (drop at t) e
 
   module _ {end : ℕ} (h : at ≤ length t) (q : Whole end ≡ shift at (items (value fieldDepth) n (drop at t))) where
-    pub laid-short : (end ≡ length t → ⊥) → Laid Bad s l s l₀ (values n (drop at t)) (pieces (value fieldDepth) n (drop at t))
+    pub laid-short : (end ≡ length t → ⊥) → Laid Bad s l s l₀ (fieldsFilling n (drop at t)) (pieces (value fieldDepth) n (drop at t))
     laid-short f =
         let w = whole-at at end (items (value fieldDepth) n (drop at t)) q in
         refused (left-over n (drop at t) (w .1) (λ e. f (let r = length-drop at t in omega arith))) m
 
     -- the values fill the tuple, and are copied
     pub laid-whole : {s' : Bytes} → end ≡ length t → s' ≡ put 0 (take (length t - at) (drop at t)) s → length t ≤ length s
-        → Laid (Count n) s' l s l₀ (values n (drop at t)) (pieces (value fieldDepth) n (drop at t))
+        → Laid (Count n) s' l s l₀ (fieldsFilling n (drop at t)) (pieces (value fieldDepth) n (drop at t))
     unfolding over
     laid-whole {s'} e p ht =
         let r = length-drop at t in
@@ -99,7 +99,7 @@ module _ (t : Bytes) {s : Bytes} {l : List ℕ} where
       many-fields k = rw (le-leb (length t) maxTuple h, q, lt-leb n maxFields k) (refused refl (over-none l))
 
       pub as-values : {r : Loaded} {s' : Bytes} {l' : List ℕ} → n ≤ maxFields
-          → Laid r s' l' s l (values n (drop e t)) (pieces (value fieldDepth) n (drop e t)) → Laid r s' l' s l (fieldsOf t) (measured t)
+          → Laid r s' l' s l (fieldsFilling n (drop e t)) (pieces (value fieldDepth) n (drop e t)) → Laid r s' l' s l (fieldsOf t) (measured t)
       unfolding fieldsOf fieldsBy measured measuredBy
       as-values k d = rw (le-leb (length t) maxTuple h, q, le-leb n maxFields k) d
 
@@ -136,10 +136,10 @@ filled-by (Whole k) n fs gs h = go (eqb k n) h
 filled-by (Broken p) n fs gs h = absurd (let z : _≡_ {A = ℕ} 0 1 = cc in omega arith)
 
 pub measured-all : (t : Bytes) {fs : Fields} → fieldsOf t ≡ some fs → measured t ≡ fs
-unfolding fieldsOf fieldsBy measured measuredBy values
+unfolding fieldsOf fieldsBy measured measuredBy fieldsFilling
 measured-all t {fs} h = by-length (leb (length t) maxTuple) (header arrayBy t) h
   where
-    by-count : (b : Bool) (n e : ℕ) → pick b (values n (drop e t)) none ≡ some fs → pick b (pieces (value fieldDepth) n (drop e t)) [] ≡ fs
+    by-count : (b : Bool) (n e : ℕ) → pick b (fieldsFilling n (drop e t)) none ≡ some fs → pick b (pieces (value fieldDepth) n (drop e t)) [] ≡ fs
     by-count true n e h = filled-by (items (value fieldDepth) n (drop e t)) (length (drop e t)) (pieces (value fieldDepth) n (drop e t)) fs h
     by-count false n e h = absurd (let z : _≡_ {A = ℕ} 0 1 = cc in omega arith)
 

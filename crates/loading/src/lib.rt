@@ -11,7 +11,7 @@ ghost use lib.ListN.{length, drop};
 ghost use Rattle.msgpack_values.specs.Value.{shift, value, items};
 ghost use Rattle.msgpack_values.specs.Pieces.{pieces};
 ghost use Rattle.tuples.specs.Limits.{fieldDepth, maxTuple};
-ghost use Rattle.tuples.specs.Tuple.{values};
+ghost use Rattle.tuples.specs.Tuple.{fieldsFilling};
 ghost use Rattle.engine.specs.Held.{lengthsOf, over};
 ghost use Rattle.loading.specs.Loading.{loadable, measuredIn, Laid, Arrays};
 
@@ -49,7 +49,7 @@ fn measure(tuple: &[u8], from: usize, n: usize, lengths: &mut [u16]) -> Read
 fn lay(tuple: &[u8], at: usize, n: usize, scratch: &mut [u8], lengths: &mut [u16]) -> Loaded
     requires { ⌜ Arrays (now tuple) at n (now scratch) (now lengths) ⌝ }
     ensures { λ r. ⌜ Laid r (now (scratch .exit)) (now (lengths .exit)) (now (scratch .entry)) (now (lengths .entry))
-        (values n (drop at (now (tuple .entry)))) (pieces (value fieldDepth) n (drop at (now (tuple .entry)))) ⌝ }
+        (fieldsFilling n (drop at (now (tuple .entry)))) (pieces (value fieldDepth) n (drop at (now (tuple .entry)))) ⌝ }
 {
     let Read::Whole(end) = measure(tuple, at, n, lengths) else {
         return Loaded::Bad;

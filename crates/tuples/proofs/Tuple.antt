@@ -32,7 +32,7 @@ use Rattle.msgpack_read_back.proofs.Back.{array-header-back}
 use Rattle.msgpack_writing.proofs.Choice.{by-leb}
 use Rattle.msgpack_writing.proofs.Lengths.{array-mono}
 use Rattle.tuples.specs.Limits.{maxFields, maxTuple, fieldDepth}
-use Rattle.tuples.specs.Tuple.{Fields, plain, filling, values, fieldsBy, fieldsOf}
+use Rattle.tuples.specs.Tuple.{Fields, plain, filling, fieldsFilling, fieldsBy, fieldsOf}
 use Rattle.tuples.proofs.Cases.{impossible, guarded}
 use Rattle.tuples.proofs.Whole.{pieces-each}
 use Rattle.tuples.proofs.Legal.{Legal, plain-length}
@@ -88,8 +88,8 @@ record Filled (n : ℕ) (s : Bytes) (fs : Fields) : Type 0 where
   join : joined fs ≡ s
   whole : Each (value fieldDepth) fs
 
-values-filled : (n : ℕ) (s : Bytes) (fs : Fields) → values n s ≡ some fs → Filled n s fs
-unfolding values filling
+values-filled : (n : ℕ) (s : Bytes) (fs : Fields) → fieldsFilling n s ≡ some fs → Filled n s fs
+unfolding fieldsFilling filling
 values-filled n s fs h = go (items (value fieldDepth) n s) refl h
   where
     go : (r : Read) → items (value fieldDepth) n s ≡ r → filling r (length s) (pieces (value fieldDepth) n s) ≡ some fs → Filled n s fs
@@ -110,7 +110,7 @@ fields-legal t fs h =
     go : length t ≤ maxTuple → (g : Header) → header arrayBy t ≡ g → fieldsBy g t ≡ some fs → Legal fs
     go l Other q e = impossible (cc)
     go l (Is n k) q e =
-        let (b, v) = guarded (leb n maxFields) (values n (drop k t)) fs e in
+        let (b, v) = guarded (leb n maxFields) (fieldsFilling n (drop k t)) fs e in
         let f = values-filled n (drop k t) fs v in
         let few : n ≤ maxFields = leb-true _ _ b in
         let (s, i) = array-short t n k (omega arith) q in
@@ -129,19 +129,19 @@ fields-short t fs h =
     go : (g : Header) → fieldsBy g t ≡ some fs → length (joined fs) ≤ length t
     go Other e = impossible (cc)
     go (Is n k) e =
-        let (b, v) = guarded (leb n maxFields) (values n (drop k t)) fs e in
+        let (b, v) = guarded (leb n maxFields) (fieldsFilling n (drop k t)) fs e in
         let j : length (joined fs) ≡ length t - k = ap length (values-filled n (drop k t) fs v .join) ∙ length-drop k t in
         omega arith
 
 -- ---- a plain form is read as its fields
 
 pub read-plain : (fs : Fields) → Legal fs → fieldsOf (plain fs) ≡ some fs
-unfolding fieldsOf fieldsBy values filling
+unfolding fieldsOf fieldsBy fieldsFilling filling
 read-plain fs g =
     let h : header arrayBy (plain fs) ≡ Is (length fs) (length (arrayHeader (length fs))) = unfold plain in array-header-back (length fs) (joined fs) (omega arith) in
     let d : drop (length (arrayHeader (length fs))) (plain fs) ≡ joined fs = unfold plain in drop-append-seam (arrayHeader (length fs)) (joined fs) in
     let (i, p) = items-joined (value fieldDepth) (value-good fieldDepth) (g .whole) [] in
     rw (le-leb _ _ (g .fit .short), h) (rw (le-leb _ _ (g .fit .few), d) (filled i p))
   where
-    filled : items (value fieldDepth) (length fs) (joined fs ++ []) ≡ Whole (length (joined fs)) → pieces (value fieldDepth) (length fs) (joined fs ++ []) ≡ fs → values (length fs) (joined fs) ≡ some fs
+    filled : items (value fieldDepth) (length fs) (joined fs ++ []) ≡ Whole (length (joined fs)) → pieces (value fieldDepth) (length fs) (joined fs ++ []) ≡ fs → fieldsFilling (length fs) (joined fs) ≡ some fs
     filled i p = rw (rw append-nil at i, rw append-nil at p, eq-eqb (length (joined fs)) (length (joined fs)) refl)

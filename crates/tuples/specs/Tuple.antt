@@ -30,11 +30,11 @@ filling (Whole k) all fs = pick (eqb k all) (some fs) none
 filling (Broken p) all fs = none
 
 -- n values that fill s
-unfoldable pub values : ℕ → Bytes → Option Fields
-values n s = filling (items (value fieldDepth) n s) (length s) (pieces (value fieldDepth) n s)
+unfoldable pub fieldsFilling : ℕ → Bytes → Option Fields
+fieldsFilling n s = filling (items (value fieldDepth) n s) (length s) (pieces (value fieldDepth) n s)
 
 unfoldable pub fieldsBy : Header → Bytes → Option Fields
-fieldsBy (Is n e) t = pick (leb n maxFields) (values n (drop e t)) none
+fieldsBy (Is n e) t = pick (leb n maxFields) (fieldsFilling n (drop e t)) none
 fieldsBy Other t = none
 
 -- the fields of a tuple; none for "11: tuple outside the rules above"

@@ -7,7 +7,7 @@ use Rattle.msgpack_values.specs.Pieces.{pieces, joined}
 use Rattle.msgpack_scalars.specs.Integer.{dueIn, due, naturalOf, unsignedBy, unsigned, twosComplement, signedOf, signedBy, signed, adding, integer}
 use Rattle.msgpack_scalars.specs.Header.{counted, header}
 use Rattle.msgpack_writing.specs.Forms.{bigEndian, unsignedForm, negativeForm, stringHeader, arrayHeader}
-use Rattle.tuples.specs.Tuple.{plain, filling, values, fieldsBy, fieldsOf}
+use Rattle.tuples.specs.Tuple.{plain, filling, fieldsFilling, fieldsBy, fieldsOf}
 use Rattle.tuples.specs.Decoding.{onGot, then, made, nothing, valueFrom, anyValue, integerFrom, anyInteger, less, floor, atLeast, position, stringFrom, string, countFrom, count, mark}
 use Rattle.tuples.specs.Operation.{three, five, actionOf, operation, before, andMore, operations, listBy, operationsOf}
 use Rattle.tuples.specs.Edit.{asℤ, ranged, spliced, became, suited, altered, editAt, fieldAt, planOf, plans, fits, limited, perform, step, run, operationBytes, restored, inverse, undoOf}
@@ -20,7 +20,7 @@ use Rattle.known_examples.proofs.known_examples.Statement.{statement}
 use Rattle.known_examples.proofs.known_examples.Tie as tie
 
 returns : tie.Need-returns
-unfolding frameRead bySize sizeOf sizeBy refuse check numberIn optional frameAt emptyFrame formOf sameKind number payload sized items byForm one tooDeep container value pieces joined dueIn due naturalOf unsignedBy unsigned twosComplement signedOf signedBy signed adding integer counted header bigEndian unsignedForm negativeForm stringHeader arrayHeader plain filling values fieldsBy fieldsOf onGot then made nothing valueFrom anyValue integerFrom anyInteger less floor atLeast position stringFrom string countFrom count mark three five actionOf operation before andMore operations listBy operationsOf asℤ ranged spliced became suited altered editAt fieldAt planOf plans fits limited perform step run operationBytes restored inverse undoOf judged onRun updateOf limitedList undoListOf update undo refusing writing delivered updateCall undoCall
+unfolding frameRead bySize sizeOf sizeBy refuse check numberIn optional frameAt emptyFrame formOf sameKind number payload sized items byForm one tooDeep container value pieces joined dueIn due naturalOf unsignedBy unsigned twosComplement signedOf signedBy signed adding integer counted header bigEndian unsignedForm negativeForm stringHeader arrayHeader plain filling fieldsFilling fieldsBy fieldsOf onGot then made nothing valueFrom anyValue integerFrom anyInteger less floor atLeast position stringFrom string countFrom count mark three five actionOf operation before andMore operations listBy operationsOf asℤ ranged spliced became suited altered editAt fieldAt planOf plans fits limited perform step run operationBytes restored inverse undoOf judged onRun updateOf limitedList undoListOf update undo refusing writing delivered updateCall undoCall
 returns c = refl
 
 pub known-examples-spec : {M : Type 1} → statement M
