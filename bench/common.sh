@@ -15,6 +15,7 @@ missing() {
 
 mkdir -p "$built"
 archive=$(tests/archive)
+archive=${archive#"$PWD/"}
 if has_header msgpuck.h; then
     flags="$flags -DHAVE_MSGPUCK"
     libraries="$libraries -lmsgpuck"
