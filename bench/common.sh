@@ -1,6 +1,5 @@
 # What both commands build with. They run from the top of the repository.
 built=target/bench
-archive=target/staticlib/liblaksubinat.a
 flags="-O2 -std=c99 -D_DEFAULT_SOURCE -Wall -Wextra -Iinclude"
 common="bench/timing.c bench/samples.c bench/plain_update.c bench/updates.c"
 libraries=""
@@ -15,7 +14,8 @@ missing() {
 }
 
 mkdir -p "$built"
-[ -f "$archive" ] || rt staticlib laksubinat
+archive=$(tests/archive)
+archive=${archive#"$PWD/"}
 if has_header msgpuck.h; then
     flags="$flags -DHAVE_MSGPUCK"
     libraries="$libraries -lmsgpuck"

@@ -1,8 +1,8 @@
 #!/usr/bin/env python3
-"""The worked cases of the program `cases`, and what it must print of them.
+"""The worked cases of the program `program_cases`, and what it must print of them.
 
-  cases.py lines   > crates/cases/stdin
-  cases.py answers > crates/cases/stdout
+  cases.py lines   > crates/program_cases/stdin
+  cases.py answers > crates/program_cases/stdout
 
 `data/msgpack.tsv` holds published MessagePack vectors, `data/*.bin` recorded frames; all else is made here.
 """

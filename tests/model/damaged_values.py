@@ -1,4 +1,4 @@
-"""Damaged and border values for the program `cases`: bytes, and what they are."""
+"""Damaged and border values for the program `program_cases`: bytes, and what they are."""
 
 
 LONG = [

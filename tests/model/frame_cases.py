@@ -1,5 +1,5 @@
 #!/usr/bin/env python3
-"""Frames for the program `cases`.
+"""Frames for the program `program_cases`.
 
   frame_cases.py lines       the lines: `f` a frame to read; `w` a record, the bytes of its places and a room, to write
   frame_cases.py answers     what must be printed of them, by the second implementation

@@ -1,5 +1,5 @@
 #!/usr/bin/env python3
-"""Updates for the program `cases`: each line is a tuple, a list, an index base and the room of both output buffers.
+"""Updates for the program `program_cases`: each line is a tuple, a list, an index base and the room of both output buffers.
 
   update_cases.py lines      the lines, `u`
   update_cases.py answers    what must be printed of them: the update call's answer and buffer, then the undo call's

@@ -3,7 +3,7 @@
 
 It shares nothing with the Rattle code but the form of the printed lines.
 
-  values.py < crates/cases/stdin     compare what is accepted with the library python3-msgpack as well
+  values.py < crates/program_cases/stdin     compare what is accepted with the library python3-msgpack as well
 """
 import struct
 import sys

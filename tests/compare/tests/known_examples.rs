@@ -5,9 +5,9 @@ use compare::cases::{unhex, Case, Change, Reply};
 use laksubinat::raw::{Answer, Frame, FrameAnswer, Number, Place, ValueAnswer};
 
 const ALL: [&dyn Calls; 3] = [&Reference, &Interface, &Bindings];
-const REQUESTS: &[u8] = include_bytes!("../../../../tests/model/data/requests.bin");
-const RESPONSES: &[u8] = include_bytes!("../../../../tests/model/data/responses.bin");
-const VECTORS: &str = include_str!("../../../../tests/model/data/msgpack.tsv");
+const REQUESTS: &[u8] = include_bytes!("../../model/data/requests.bin");
+const RESPONSES: &[u8] = include_bytes!("../../model/data/responses.bin");
+const VECTORS: &str = include_str!("../../model/data/msgpack.tsv");
 const SELECT: &str = "ce0000001b 82 0104 0001 86 10cd0200 1100 1400 1300 12ceffffffff 20 91cd0118";
 
 fn read(bytes: &str) -> FrameAnswer {

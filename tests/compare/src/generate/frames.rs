@@ -145,8 +145,8 @@ fn contents(r: &mut Random) -> Vec<u8> {
 
 /// Frames that a server and its client exchanged.
 const RECORDED: [&[u8]; 2] = [
-    include_bytes!("../../../../../tests/model/data/requests.bin"),
-    include_bytes!("../../../../../tests/model/data/responses.bin"),
+    include_bytes!("../../../model/data/requests.bin"),
+    include_bytes!("../../../model/data/responses.bin"),
 ];
 
 /// One of the recorded frames, and those after it.
