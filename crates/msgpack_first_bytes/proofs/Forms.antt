@@ -28,7 +28,7 @@ kind-back Bin = refl
 kind-back Ext = refl
 
 -- a form as four numbers, and back
-abbrev pub formNos : Form → List ℕ
+abbrev formNos : Form → List ℕ
 formNos Unused = 0 ∷ 0 ∷ 0 ∷ 0 ∷ []
 formNos (Scalar k w f) = 1 ∷ kindNo k ∷ w ∷ f ∷ []
 formNos (Array w f) = 2 ∷ 0 ∷ w ∷ f ∷ []
@@ -63,6 +63,6 @@ abbrev sameForm : (ℕ → Form) → (ℕ → Form) → ℕ → Bool
 sameForm f g b = eqList (formNos (f b)) (formNos (g b))
 
 -- f and g give the same form at each of the n numbers from lo
-pub agree : (f g : ℕ → Form) (lo n : ℕ) → T (all (sameForm f g) lo n) → (b : ℕ) → lo ≤ b → b < lo + n → f b ≡ g b
-agree f g lo n t b h k =
-    sym (form-back (f b)) ∙ ap formAt (eqList-eq (formNos (f b)) (formNos (g b)) (all-at (sameForm f g) lo n t b h k)) ∙ form-back (g b)
+pub agree : (f g : ℕ → Form) (lo n : ℕ) → T (all (sameForm f g) lo n) → {b : ℕ} → b < lo + n → lo ≤ b → f b ≡ g b
+agree f g lo n t {b} k h =
+    sym (form-back (f b)) ∙ ap formAt (eqList-eq (formNos (f b)) (formNos (g b)) (all-at (sameForm f g) lo n t k h)) ∙ form-back (g b)

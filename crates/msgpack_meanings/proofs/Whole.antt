@@ -38,7 +38,7 @@ typed (Map w f) = true
 type-due : (b : ℕ) (k : Kind) (w f : ℕ) → b < 256 → Scalar k w f ≡ formOf b → typeBytes k ≤ f
 unfolding typed typeBytes sameKind formOf
 type-due b k w f h e =
-    leb→le (typeBytes k) f (subst (λ (x : Form). T (typed x)) (sym e) (all-at (λ b. typed (formOf b)) 0 256 tt b (omega arith) (omega arith)))
+    leb→le (typeBytes k) f (subst (λ (x : Form). T (typed x)) (sym e) (all-at (λ b. typed (formOf b)) 0 256 tt h (omega arith)))
 
 -- a scalar's first byte, its length bytes and what its first byte asks for
 scalar-least : (w f m : ℕ) (t : Bytes) → sized w (λ n r. payload (n + f) r) t ≡ Whole m → w + f ≤ m

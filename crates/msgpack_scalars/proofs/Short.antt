@@ -31,11 +31,11 @@ module _ (s : Bytes) (at : ℕ) where
   pub array-short : at < length s → 0x90 ≤ getD s at 0 → getD s at 0 < 0xa0 → Is (getD s at 0 - 0x90) (at + 1) ≡ shiftHeader at (header arrayBy (drop at s))
   unfolding header counted number formOf
   array-short h k l =
-      let e : formOf (getD s at 0) ≡ Array 0 (getD s at 0 - 0x90) = agree formOf (λ b. Array 0 (b - 0x90)) 0x90 16 tt (getD s at 0) (omega arith) (omega arith) in
+      let e : formOf (getD s at 0) ≡ Array 0 (getD s at 0 - 0x90) = agree formOf (λ b. Array 0 (b - 0x90)) 0x90 16 tt l k in
       rw (drop-cons s at 0 h, e, le-leb 0 (length (drop (suc at) s)) (omega arith)) (ap (λ (n : ℕ). Is n (at + 1)) (omega arith))
 
   pub integer-small : at < length s → getD s at 0 < 0x80 → IsInt (FromZero (getD s at 0)) (at + 1) ≡ shiftInteger at (integer (drop at s))
   unfolding integer adding unsigned unsignedBy due dueIn naturalOf sameKind formOf
   integer-small h k =
-      let e : formOf (getD s at 0) ≡ Scalar Unsigned 0 0 = agree formOf (λ b. Scalar Unsigned 0 0) 0x00 128 tt (getD s at 0) (omega arith) (omega arith) in
+      let e : formOf (getD s at 0) ≡ Scalar Unsigned 0 0 = agree formOf (λ b. Scalar Unsigned 0 0) 0x00 128 tt k (omega arith) in
       rw (drop-cons s at 0 h, e, le-leb 0 (length (drop (suc at) s)) (omega arith))

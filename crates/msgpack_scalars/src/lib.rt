@@ -197,7 +197,7 @@ pub fn integer_at(s: &[u8], at: usize) -> Integer
 
 // What a header says: `fixed` by its first byte at `at`, and more by the `width` bytes after it.
 fn counted_at(s: &[u8], at: usize, start: Start) -> Header
-    requires { ⌜ (at < length (now s)) × Few start ⌝ }
+    requires { ⌜ (at < length (now s)) × Few 31 start ⌝ }
     ensures { λ r. ⌜ r ≡ shiftHeader at (counted start (drop (at + 1) (now (s .entry)))) ⌝ }
 {
     let Start::Here(width, fixed) = start else {

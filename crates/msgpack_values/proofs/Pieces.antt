@@ -30,9 +30,7 @@ pieces-joined v (suc n) s k e = go (pieces-joined v n) (v s) refl e
         (rw q (ap suc (r .0)), rw q (ap (λ (l : Bytes). take j s ++ l) (r .1) ∙ sym t))
 
 single-front : (v : Bytes → Read) → Good v → (f t : Bytes) → Single v f → v (f ++ t) ≡ Whole (length f)
-single-front v g f t e =
-    g f (length f) e .1 (f ++ t)
-    (record { left = omega arith; right = rw length-append (omega arith); front = take-length f ∙ sym (take-append-seam f t) })
+single-front v g f t e = rw take-length at (g f (length f) e .1 t)
 
 -- values put together are read as those values
 pub items-joined : (v : Bytes → Read) → Good v → {fs : List Bytes} → Each v fs → (t : Bytes)

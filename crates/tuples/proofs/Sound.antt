@@ -20,7 +20,7 @@ use Rattle.msgpack_scalars.specs.declared.Int.the-variants.{FromZero, BelowZero
 use Rattle.msgpack_writing.specs.Forms.{bigEndian, unsignedForm, stringHeader}
 use Rattle.msgpack_read_back.specs.Claims.{stringForm}
 use Rattle.msgpack_read_back.proofs.Back.{integer-whole, string-whole}
-use Rattle.msgpack_writing.proofs.Choice.{by-leb, by-ltb, either}
+use Rattle.msgpack_first_bytes.proofs.Logic.{by-leb, by-ltb, either}
 use Rattle.tuples.specs.Limits.{maxTuple, fieldDepth}
 use Rattle.tuples.specs.Tuple.{Fields}
 use Rattle.tuples.specs.Decoding.{Got, fails, gets, Decoder, anyInteger, atLeast, string}
