@@ -1,5 +1,4 @@
 -- The laws of reading, each once. Assumes nothing.
-pub mod Big
 pub mod Laws
 pub mod Tokens
 pub mod Local

@@ -1,5 +1,5 @@
 -- What the first bytes of a value tell: one law for each way that `token_at` and the functions below it take. Assumes nothing.
-use mathlib.Core.Path.{_≡_, refl, sym, subst, ap, _∙_}
+use mathlib.Core.Path.{_≡_, refl, sym, ap, _∙_}
 use mathlib.Core.List.{List, [], _∷_}
 use mathlib.Core.Bool.{Bool, true, false}
 use Prim.Native.Nat.{ℕ, zero, suc, _+_, _-_, _*_, _<_, _≤_}
@@ -14,7 +14,7 @@ use Rattle.msgpack_first_bytes.specs.declared.Kind.{Kind}
 use Rattle.msgpack_first_bytes.specs.declared.Form.{Form}
 use Rattle.msgpack_first_bytes.specs.declared.Form.the-variants.{Unused, Scalar, Array, Map}
 use Rattle.msgpack_first_bytes.proofs.Range.{all, all-at}
-use Rattle.msgpack_values.specs.Number.{number}
+use Rattle.msgpack_first_bytes.specs.Number.{number}
 use Rattle.msgpack_values.specs.Value.{shift, payload, sized, items, byForm, value, inside}
 use Rattle.msgpack_values.specs.Tokens.{scalarLength, shortCount, Tells}
 use Rattle.msgpack_values.specs.declared.Read.{Read}

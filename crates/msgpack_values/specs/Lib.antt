@@ -1,5 +1,4 @@
--- One MessagePack value at the front of bytes, numbers of several bytes, and the values of a container as pieces.
-pub mod Number
+-- One MessagePack value at the front of bytes, and the values of a container as pieces.
 pub mod Value
 pub mod Tokens
 pub mod Pieces

@@ -3,7 +3,7 @@ ghost use mathlib.Core.Path.{_≡_};
 ghost use Prim.Native.Nat.{_+_, _-_, _*_, _^_, _<_, _≤_};
 ghost use lib.ListN.{length, take, drop, getD};
 ghost use Rattle.msgpack_first_bytes.specs.FirstByte.{formOf};
-ghost use Rattle.msgpack_values.specs.Number.{number, numberAt, Below};
+ghost use Rattle.msgpack_first_bytes.specs.Number.{number};
 ghost use Rattle.msgpack_values.specs.Value.{shift, payload, sized, items, inside, value};
 ghost use Rattle.msgpack_values.specs.Tokens.{scalarLength, shortCount, Width, Ends, Tells};
 
@@ -14,47 +14,12 @@ pub enum Read {
     Broken(usize),
 }
 
-pub enum Number {
-    Is(u64),
-    Missing,
-}
-
 // What stands at a place, as far as its first bytes tell: a scalar, with the place after it; a
 // container, with the number of its values and the place of the first; or what is broken.
 enum Token {
     Past(usize),
     Holds(usize, usize),
     Fails(usize),
-}
-
-// One byte more at the low end, without a multiplication.
-fn appended(n: u64, b: u8) -> u64
-    requires { ⌜ n < 2 ^ 56 ⌝ }
-    ensures { λ r. ⌜ r ≡ n * 256 + b ⌝ }
-{
-    (n << 8) + b as u64
-}
-
-// The number of the `width` bytes from `at`.
-pub fn number_at(s: &[u8], at: usize, width: usize) -> Number
-    ensures { λ r. ⌜ (r ≡ numberAt width at (now (s .entry))) × Below (2 ^ (8 * width)) r ⌝ }
-{
-    if 8 < width {
-        return Number::Missing;
-    }
-    if s.len() < width {
-        return Number::Missing;
-    }
-    if s.len() - width < at {
-        return Number::Missing;
-    }
-    let mut n: u64 = 0;
-    let mut i: usize = 0;
-    while i < width {
-        n = appended(n, s[at + i]);
-        i += 1;
-    }
-    Number::Is(n)
 }
 
 // A scalar's length by its first byte from 0xc0 to 0xdf; 0 where further bytes tell it.

@@ -1,7 +1,7 @@
 -- The calls' answers compute to document 01's. Assumes nothing.
 use mathlib.Core.Path.{refl}
 use Rattle.msgpack_first_bytes.specs.FirstByte.{formOf, sameKind}
-use Rattle.msgpack_values.specs.Number.{number}
+use Rattle.msgpack_first_bytes.specs.Number.{number}
 use Rattle.msgpack_values.specs.Value.{payload, sized, items, byForm, one, tooDeep, container, value}
 use Rattle.msgpack_values.specs.Pieces.{pieces, joined}
 use Rattle.msgpack_scalars.specs.Integer.{dueIn, due, naturalOf, unsignedBy, unsigned, twosComplement, signedOf, signedBy, signed, adding, integer}

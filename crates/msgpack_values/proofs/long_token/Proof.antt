@@ -1,14 +1,14 @@
 -- Each arm by the form of its byte; the others are the unused byte, by one computed test. Assumes nothing.
 use borrow.Author.Needs.{needs}
 use native.Mathlib.Omega.{arith}
-use mathlib.Core.Path.{_≡_, sym, _∙_}
+use mathlib.Core.Path.{_≡_, sym}
 use Prim.Native.Nat.{ℕ, _+_}
 use lib.ListN.{drop}
 use Rattle.msgpack_first_bytes.specs.FirstByte.{formOf}
 use Rattle.msgpack_first_bytes.specs.declared.Kind.{Kind}
 use Rattle.msgpack_first_bytes.specs.declared.Kind.the-variants.{String, Bin, Ext}
 use Rattle.msgpack_first_bytes.specs.declared.Form.{Form}
-use Rattle.msgpack_first_bytes.specs.declared.Form.the-variants.{Unused, Scalar, Array, Map}
+use Rattle.msgpack_first_bytes.specs.declared.Form.the-variants.{Scalar, Array, Map}
 use Rattle.msgpack_values.specs.Value.{shift, payload, sized, byForm, value, inside}
 use Rattle.msgpack_values.specs.Tokens.{Tells}
 use Rattle.msgpack_values.specs.declared.Token.{Token}
