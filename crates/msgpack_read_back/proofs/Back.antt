@@ -14,7 +14,7 @@ use Rattle.msgpack_first_bytes.specs.declared.Kind.{Kind}
 use Rattle.msgpack_first_bytes.specs.declared.Kind.the-variants.{Unsigned, Signed, String}
 use Rattle.msgpack_first_bytes.specs.declared.Form.{Form}
 use Rattle.msgpack_first_bytes.specs.declared.Form.the-variants.{Scalar, Array, Map}
-use Rattle.msgpack_first_bytes.proofs.Forms.{agree}
+use Rattle.msgpack_first_bytes.proofs.Forms.{agree, short-map, short-array}
 use Rattle.msgpack_first_bytes.specs.Number.{number}
 use Rattle.msgpack_values.specs.Value.{shift, payload, sized, items, byForm, one, container, value, inside}
 use Rattle.msgpack_values.specs.Pieces.{joined, Each}
@@ -140,9 +140,7 @@ count-shape form short long n e f g h =
 
 array-shape : (n : ℕ) → n < 2 ^ 32 → Counts Array n (arrayHeader n)
 unfolding arrayHeader formOf
-array-shape n =
-    count-shape Array 0x90 0xdc n
-    (λ k. agree formOf (λ b. Array 0 (b - 0x90)) 0x90 16 tt {b = 0x90 + n} (omega arith) (omega arith) ∙ ap (Array 0) (omega arith)) refl refl
+array-shape n = count-shape Array 0x90 0xdc n (λ k. short-array {b = 0x90 + n} (omega arith) (omega arith) ∙ ap (Array 0) (omega arith)) refl refl
 
 -- a first byte of a map counts a key and a value for each entry
 abbrev MapOf : ℕ → ℕ → Form
@@ -150,9 +148,7 @@ MapOf w f = Map w (2 * f)
 
 map-shape : (n : ℕ) → n < 2 ^ 32 → Counts MapOf n (mapHeader n)
 unfolding mapHeader formOf
-map-shape n =
-    count-shape MapOf 0x80 0xde n
-    (λ k. agree formOf (λ b. Map 0 (2 * (b - 0x80))) 0x80 16 tt {b = 0x80 + n} (omega arith) (omega arith) ∙ ap (Map 0) (omega arith)) refl refl
+map-shape n = count-shape MapOf 0x80 0xde n (λ k. short-map {b = 0x80 + n} (omega arith) (omega arith) ∙ ap (Map 0) (omega arith)) refl refl
 
 header-of : (by : Form → Start) {form : ℕ → ℕ → Form} {n : ℕ} {p : Bytes} (t : Bytes) → ((w f : ℕ) → by (form w f) ≡ Here w f)
     → Counts form n p → header by (p ++ t) ≡ IsHeader n (length p)

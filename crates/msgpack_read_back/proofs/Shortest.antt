@@ -22,8 +22,6 @@ use Rattle.msgpack_scalars.specs.declared.Start.{Start}
 use Rattle.msgpack_scalars.specs.declared.Start.the-variants.{Here, Elsewhere}
 use Rattle.msgpack_scalars.specs.declared.Due.{Due}
 use Rattle.msgpack_scalars.specs.declared.Due.the-variants.{More, Cut as CutDue, Other as OtherDue}
-use Rattle.msgpack_scalars.specs.declared.Natural.{Natural}
-use Rattle.msgpack_scalars.specs.declared.Natural.the-variants.{Is, Cut, Other}
 use Rattle.msgpack_scalars.specs.declared.Int.{Int}
 use Rattle.msgpack_scalars.specs.declared.Int.the-variants.{FromZero}
 use Rattle.msgpack_scalars.specs.declared.Integer.the-variants.{Is as IsInt}
@@ -62,18 +60,6 @@ module _ (form : ℕ → Bytes) (mono : (n m : ℕ) → n ≤ m → length (form
   header-short by t [] o n k e = impossible cc
   header-short by t (b ∷ s) o n k e =
       counted-short (by (formOf b)) (all-at (λ b. headerTest form (by (formOf b))) 0 256 t (o 0) (omega arith)) s (λ i. o (suc i)) n k e
-
-string-shortest : (s : Bytes) → Octets s → (n k : ℕ) → header stringBy s ≡ IsHeader n k → length (stringHeader n) ≤ k
-unfolding sameKind formOf stringHeader bigEndian
-string-shortest = header-short stringHeader string-mono stringBy tt
-
-array-shortest : (s : Bytes) → Octets s → (n k : ℕ) → header arrayBy s ≡ IsHeader n k → length (arrayHeader n) ≤ k
-unfolding formOf arrayHeader bigEndian
-array-shortest = header-short arrayHeader array-mono arrayBy tt
-
-map-shortest : (s : Bytes) → Octets s → (n k : ℕ) → header mapBy s ≡ IsHeader n k → length (mapHeader n) ≤ k
-unfolding formOf mapHeader bigEndian
-map-shortest = header-short mapHeader map-mono mapBy tt
 
 -- ---- numbers
 
@@ -146,44 +132,30 @@ signed-short b (suc f) t s o h =
     (λ k. let m = unsigned-mono n (top (suc f)) (omega arith) in omega arith)
     (λ k. let m = negative-mono (2 ^ (8 * suc f) - 1 - n) (bottom (suc f)) (omega arith) (omega arith) in omega arith)
 
-unsigned-shortest : (s : Bytes) → Octets s → (n k : ℕ) → unsigned s ≡ Is n k → length (unsignedForm n) ≤ k
-unfolding unsigned unsignedBy sameKind formOf unsignedForm bigEndian
-unsigned-shortest s o n k e = go (due Unsigned s) refl e
-  where
-    go : (d : Due) → due Unsigned s ≡ d → unsignedBy d s ≡ Is n k → length (unsignedForm n) ≤ k
-    go (More f) q e =
-        let l = number-short Unsigned (λ f s. FromZero (naturalOf f s)) unsignedTest unsigned-short tt s o f q in
-        let en : naturalOf f s ≡ n = cc in
-        let ek : 1 + f ≡ k = cc in
-        rw (← en, ← ek) l
-    go CutDue q e = impossible cc
-    go OtherDue q e = impossible cc
-
-signed-shortest : (s : Bytes) → Octets s → (z : Int) (k : ℕ) → signed s ≡ IsInt z k → length (integerForm z) ≤ k
-unfolding signed signedBy sameKind formOf unsignedForm negativeForm bigEndian
-signed-shortest s o z k e = go (due Signed s) refl e
-  where
-    go : (d : Due) → due Signed s ≡ d → signedBy d s ≡ IsInt z k → length (integerForm z) ≤ k
-    go (More f) q e =
-        let l = number-short Signed signedOf signedTest signed-short tt s o f q in
-        let ez : signedOf f s ≡ z = cc in
-        let ek : 1 + f ≡ k = cc in
-        rw (← ez, ← ek) l
-    go CutDue q e = impossible cc
-    go OtherDue q e = impossible cc
-
 -- in every form that is read as an integer, the signed ones of numbers from 0 up too
 integer-shortest : (s : Bytes) → Octets s → (z : Int) (k : ℕ) → integer s ≡ IsInt z k → length (integerForm z) ≤ k
-unfolding integer adding
-integer-shortest s o z k e = go (unsigned s) refl e
+unfolding integer adding unsigned unsignedBy signed signedBy sameKind formOf unsignedForm negativeForm bigEndian
+integer-shortest s o z k e = go (due Unsigned s) refl (due Signed s) refl e
   where
-    go : (r : Natural) → unsigned s ≡ r → adding r (signed s) ≡ IsInt z k → length (integerForm z) ≤ k
-    go (Is n j) q e =
-        let ez : FromZero n ≡ z = cc in
-        let ek : j ≡ k = cc in
-        rw (← ez, ← ek) (unsigned-shortest s o n j q)
-    go Cut q e = impossible cc
-    go Other q e = signed-shortest s o z k e
+    go : (d : Due) → due Unsigned s ≡ d → (c : Due) → due Signed s ≡ c → adding (unsignedBy d s) (signedBy c s) ≡ IsInt z k → length (integerForm z) ≤ k
+    go (More f) q c r e =
+        let ez : FromZero (naturalOf f s) ≡ z = cc in
+        let ek : 1 + f ≡ k = cc in
+        rw (← ez, ← ek) (number-short Unsigned (λ f s. FromZero (naturalOf f s)) unsignedTest unsigned-short tt s o f q)
+    go CutDue q c r e = impossible cc
+    go OtherDue q (More f) r e =
+        let ez : signedOf f s ≡ z = cc in
+        let ek : 1 + f ≡ k = cc in
+        rw (← ez, ← ek) (number-short Signed signedOf signedTest signed-short tt s o f r)
+    go OtherDue q CutDue r e = impossible cc
+    go OtherDue q OtherDue r e = impossible cc
 
 pub shortest : Shortest
-shortest = record { number = integer-shortest; string = string-shortest; array = array-shortest; entries = map-shortest }
+unfolding sameKind formOf stringHeader arrayHeader mapHeader bigEndian
+shortest =
+    record {
+      number = integer-shortest;
+      string = header-short stringHeader string-mono stringBy tt;
+      array = header-short arrayHeader array-mono arrayBy tt;
+      entries = header-short mapHeader map-mono mapBy tt;
+    }

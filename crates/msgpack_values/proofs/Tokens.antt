@@ -1,7 +1,8 @@
 -- What the first bytes of a value tell: one law for each way that `token_at` and the functions below it take. Assumes nothing.
 use mathlib.Core.Path.{_≡_, refl, sym, ap, _∙_}
 use mathlib.Core.List.{List, [], _∷_}
-use mathlib.Core.Bool.{Bool, true, false}
+use mathlib.Core.Logic.{⊎-elim}
+use mathlib.Core.Bool.{Bool, true}
 use Prim.Native.Nat.{ℕ, zero, suc, _+_, _-_, _*_, _<_, _≤_}
 use native.Mathlib.Nat.{add-zero, zero-add}
 use native.Mathlib.Omega.{arith}
@@ -13,7 +14,9 @@ use Rattle.msgpack_first_bytes.specs.FirstByte.{formOf}
 use Rattle.msgpack_first_bytes.specs.declared.Kind.{Kind}
 use Rattle.msgpack_first_bytes.specs.declared.Form.{Form}
 use Rattle.msgpack_first_bytes.specs.declared.Form.the-variants.{Unused, Scalar, Array, Map}
+use Rattle.msgpack_first_bytes.proofs.Logic.{either}
 use Rattle.msgpack_first_bytes.proofs.Range.{all, all-at}
+use Rattle.msgpack_first_bytes.proofs.Forms.{short-map, short-array}
 use Rattle.msgpack_first_bytes.specs.Number.{number}
 use Rattle.msgpack_values.specs.Value.{shift, payload, sized, items, byForm, value, inside}
 use Rattle.msgpack_values.specs.Tokens.{scalarLength, shortCount, Tells}
@@ -114,12 +117,6 @@ unlisted {b} h k e o =
     eqb→eq b 0xc1 (rw (eq-eqb (scalarLength (formOf b)) 0 e) at p)
 
 -- a short container's first byte, from 0x80 to 0x9f
-isShort : Form → Bool
-isShort Unused = false
-isShort (Scalar k w f) = false
-isShort (Array w f) = eqb w 0
-isShort (Map w f) = eqb w 0
-
 pub from-80 : (b : ℕ) → b < 0xa0 → scalarLength (formOf b) ≡ 0 → 0x80 ≤ b
 unfolding scalarLength formOf
 from-80 b h e =
@@ -129,14 +126,9 @@ from-80 b h e =
 
 module _ (s : Bytes) (at : ℕ) (h : at < length s) (l : 0x80 ≤ getD s at 0) (k : getD s at 0 < 0xa0) where
   short : (d : ℕ) → (p : ℕ) × (value d (drop at s) ≡ inside d 0 (shortCount (formOf (getD s at 0))) p (drop (at + 1) s))
-  unfolding isShort formOf shortCount byForm
-  short d = go (formOf (getD s at 0)) refl (all-at (λ b. isShort (formOf b)) 0x80 32 tt k l)
-    where
-      go : (f : Form) → f ≡ formOf (getD s at 0) → T (isShort f) → (p : ℕ) × (value d (drop at s) ≡ inside d 0 (shortCount (formOf (getD s at 0))) p (drop (at + 1) s))
-      go Unused e t = absurd t
-      go (Scalar k w f) e t = absurd t
-      go (Array w f) e t = let z : w ≡ 0 = eqb→eq w 0 t in (1, value-at s at d (Array w f) h e ∙ rw (← e, z))
-      go (Map w f) e t = let z : w ≡ 0 = eqb→eq w 0 t in (2, value-at s at d (Map w f) h e ∙ rw (← e, z))
+  unfolding shortCount byForm
+  short d =
+      ⊎-elim (λ m. (1, value-at s at d _ h refl ∙ rw (short-array k m))) (λ m. (2, value-at s at d _ h refl ∙ rw (short-map m l))) (either 0x90 (getD s at 0))
 
   pub short-deep : Broken at ≡ shift at (value 0 (drop at s))
   short-deep = let (p, q) = short 0 in inside-deep (drop (at + 1) s) at 0 (shortCount (formOf (getD s at 0))) p ∙ ap (shift at) (sym q)
