@@ -18,15 +18,15 @@ use Rattle.msgpack_values.proofs.long_token.Statement.{statement}
 use Rattle.msgpack_values.proofs.long_token.Tie as tie
 
 module _ (c : tie.Start) (r : Token) where
-  abbrev told : Type 0
-  told = Tells (c .args .s .now) (c .args .depth) (shift (c .args .at) (value (c .args .depth) (drop (c .args .at) (c .args .s .now)))) r
+  abbrev answer : Type 0
+  answer = Tells (c .args .s .now) (c .args .depth) (shift (c .args .at) (value (c .args .depth) (drop (c .args .at) (c .args .s .now)))) r
 
   scalar : (k : Kind) (w f : ℕ) → Scalar k w f ≡ formOf (c .args .b)
-      → Tells (c .args .s .now) 0 (shift (c .args .at + 1) (sized w (λ n t. payload (n + f) t) (drop (c .args .at + 1) (c .args .s .now)))) r → told
+      → Tells (c .args .s .now) 0 (shift (c .args .at + 1) (sized w (λ n t. payload (n + f) t) (drop (c .args .at + 1) (c .args .s .now)))) r → answer
   scalar k w f e = scalar-arm (c .args .s .now) (c .args .at) (c .args .depth) r (c .pre .0) k w f (rw (c .pre .1 .0) at e)
 
   counted : (f : Form) → f ≡ formOf (c .args .b)
-      → Tells (c .args .s .now) (c .args .depth) (shift (c .args .at) (byForm (inside (c .args .depth)) f (drop (c .args .at + 1) (c .args .s .now)))) r → told
+      → Tells (c .args .s .now) (c .args .depth) (shift (c .args .at) (byForm (inside (c .args .depth)) f (drop (c .args .at + 1) (c .args .s .now)))) r → answer
   counted f e = container-arm (c .args .s .now) (c .args .at) (c .args .depth) r (c .pre .0) f (rw (c .pre .1 .0) at e)
 
 returns-14 : tie.Need-returns-14
