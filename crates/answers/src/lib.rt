@@ -36,11 +36,11 @@ pub fn refused(refusal: Refusal, operation: u32) -> Answer
 pub fn deliver(count: u32, values: &[u8], out: &mut [u8]) -> Answer
     ensures { λ r. ⌜ seen r (now (out .exit)) ≡ delivered (bytes (arrayHeader count ++ now (values .entry))) (now (out .entry)) ⌝ }
 {
-    let length = msgpack_headers::array_header_length(count) + values.len();
+    let length = msgpack_writing::array_header_length(count) + values.len();
     if out.len() < length {
         return refused(Refusal::ShortBuffer, 0);
     }
-    let at = msgpack_headers::write_array_header(out, 0, count);
+    let at = msgpack_writing::write_array_header(out, 0, count);
     msgpack_writing::write_bytes(out, at, values);
     Answer {
         number: 0,

@@ -15,7 +15,7 @@ use Rattle.msgpack_scalars.specs.declared.Int.{Int}
 use Rattle.msgpack_scalars.specs.declared.Int.the-variants.{FromZero, BelowZero}
 use Rattle.msgpack_writing.specs.Put.{next}
 use Rattle.msgpack_writing.specs.Put as Written
-use Rattle.msgpack_writing.proofs.Choice.{either, by-ltb}
+use Rattle.msgpack_first_bytes.proofs.Logic.{either, by-ltb}
 use Rattle.msgpack_writing.proofs.Lengths.{Long, unsigned-long, negative-long}
 use Rattle.msgpack_read_back.specs.Claims.{integerForm, InRange}
 use Rattle.tuples.specs.Limits.{maxTuple}

@@ -125,7 +125,7 @@ fn decide(
     }
     let gone_bytes = to - from;
     let total = bytes - gone_bytes + long;
-    if MAX_TUPLE - msgpack_headers::array_header_length(fields as u32) < total {
+    if MAX_TUPLE - msgpack_writing::array_header_length(fields as u32) < total {
         return Decided::Stop(Refusal::TooLarge);
     }
     if room < total {

@@ -9,7 +9,7 @@ use lib.ListN.{length, length-append}
 use Rattle.msgpack_first_bytes.specs.Bytes.{Bytes}
 use Rattle.msgpack_values.specs.Pieces.{joined}
 use Rattle.msgpack_writing.specs.Forms.{mapHeader}
-use Rattle.msgpack_writing.proofs.Choice.{either}
+use Rattle.msgpack_first_bytes.proofs.Logic.{either}
 use Rattle.frames.specs.declared.Frame.{Frame}
 use Rattle.frames.specs.Held.{Item, encoded}
 use Rattle.frames.specs.Keys.{headerItems, bodyItems}

@@ -16,6 +16,7 @@ use Rattle.msgpack_values.specs.declared.Read.the-variants.{Whole, Broken}
 use Rattle.msgpack_values.proofs.Local.{shift-whole, value-good, value-pos}
 use Rattle.msgpack_first_bytes.specs.FirstByte.{formOf}
 use Rattle.msgpack_first_bytes.specs.declared.Kind.the-variants.{Unsigned}
+use Rattle.msgpack_first_bytes.proofs.Logic.{impossible}
 use Rattle.msgpack_scalars.specs.Start.{scalarOf}
 use Rattle.msgpack_scalars.specs.Integer.{dueIn, due, unsignedBy, unsigned, shiftNatural}
 use Rattle.msgpack_scalars.specs.declared.Start.{Start}
@@ -31,9 +32,6 @@ use Rattle.frames.specs.Cascade.{check, whole}
 use Rattle.frames.specs.Reading.{refuse, byEntries, bodyValue, bodyEntries, inFrame, sizeBy, sizeOf, bySize, frameRead}
 use Rattle.frame_reading.specs.Steps.{bodyAt, entriesIn}
 use Rattle.frame_reading.specs.declared.Body.the-variants.{At, Missing}
-
-impossible : {A : Type 0} → _≡_ {A = ℕ} 0 1 → A
-impossible z = absurd (omega arith)
 
 -- ---- the body's place
 

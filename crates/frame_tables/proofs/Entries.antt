@@ -12,6 +12,7 @@ use lib.ListN.{length, drop, length-drop}
 use types.Run.{OneOf}
 use denote.Enum.Declared.{tagOf}
 use Rattle.msgpack_first_bytes.specs.Bytes.{Bytes}
+use Rattle.msgpack_first_bytes.proofs.Logic.{impossible}
 use Rattle.msgpack_values.specs.Value.{shift, value}
 use Rattle.msgpack_values.specs.declared.Read.{Read}
 use Rattle.msgpack_values.specs.declared.Read.the-variants.{Whole, Broken}
@@ -29,9 +30,6 @@ use Rattle.frames.specs.Maps.{Entry, entry, keyed, entryAt, entries, entriesBy,
 use Rattle.frames.specs.Cascade.{check, given, whole}
 use Rattle.frame_tables.specs.Tables.{stepOf}
 use Rattle.frame_tables.specs.declared.Step.the-variants.{Entry as StepEntry, NoKey}
-
-impossible : {A : Type 0} → _≡_ {A = ℕ} 0 1 → A
-impossible z = absurd (omega arith)
 
 -- the `else` of `let Natural::Is(..) = .. else`
 not-is : {A : Type 0} (at : ℕ) (u v : Natural) (next : ℕ → ℕ → Option A) → u ≡ shiftNatural at v → OneOf (1 ∷ 2 ∷ []) (tagOf natural-type.the-type u) → keyed v next ≡ none

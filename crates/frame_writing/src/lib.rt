@@ -80,7 +80,7 @@ fn put_map(
     ensures { λ r. ⌜ (r ≡ next at (mapForm (pairs (itemsBetween from to frame (now (bytes .entry))))) (now (out .entry)))
         × (now (out .exit) ≡ put at (mapForm (pairs (itemsBetween from to frame (now (bytes .entry))))) (now (out .entry))) ⌝ }
 {
-    let a = msgpack_headers::write_map_header(out, at, count);
+    let a = msgpack_writing::write_map_header(out, at, count);
     put_pairs(out, a, frame, bytes, from, to)
 }
 

@@ -2,10 +2,10 @@
 use mathlib.Core.Path.{_≡_, refl, sym, ap, ap₂, _∙_}
 use mathlib.Core.Bool.{Bool, true, false}
 use mathlib.Core.List.{List, [], _∷_}
-use Prim.Native.Nat.{ℕ, _+_, _<_, _≤_}
+use Prim.Native.Nat.{ℕ, _+_, _-_, _*_, _<_, _≤_}
 use lib.Dec.{T, eqb, eqb→eq}
 use lib.ListN.{getD}
-use Rattle.msgpack_first_bytes.specs.FirstByte.{kindNo}
+use Rattle.msgpack_first_bytes.specs.FirstByte.{formOf, kindNo}
 use Rattle.msgpack_first_bytes.specs.declared.Kind.{Kind}
 use Rattle.msgpack_first_bytes.specs.declared.Kind.the-variants.{Nil, Boolean, Unsigned, Signed, Float32, Float64, String, Bin, Ext}
 use Rattle.msgpack_first_bytes.specs.declared.Form.{Form}
@@ -28,7 +28,7 @@ kind-back Bin = refl
 kind-back Ext = refl
 
 -- a form as four numbers, and back
-abbrev pub formNos : Form → List ℕ
+abbrev formNos : Form → List ℕ
 formNos Unused = 0 ∷ 0 ∷ 0 ∷ 0 ∷ []
 formNos (Scalar k w f) = 1 ∷ kindNo k ∷ w ∷ f ∷ []
 formNos (Array w f) = 2 ∷ 0 ∷ w ∷ f ∷ []
@@ -63,6 +63,15 @@ abbrev sameForm : (ℕ → Form) → (ℕ → Form) → ℕ → Bool
 sameForm f g b = eqList (formNos (f b)) (formNos (g b))
 
 -- f and g give the same form at each of the n numbers from lo
-pub agree : (f g : ℕ → Form) (lo n : ℕ) → T (all (sameForm f g) lo n) → (b : ℕ) → lo ≤ b → b < lo + n → f b ≡ g b
-agree f g lo n t b h k =
-    sym (form-back (f b)) ∙ ap formAt (eqList-eq (formNos (f b)) (formNos (g b)) (all-at (sameForm f g) lo n t b h k)) ∙ form-back (g b)
+pub agree : (f g : ℕ → Form) (lo n : ℕ) → T (all (sameForm f g) lo n) → {b : ℕ} → b < lo + n → lo ≤ b → f b ≡ g b
+agree f g lo n t {b} k h =
+    sym (form-back (f b)) ∙ ap formAt (eqList-eq (formNos (f b)) (formNos (g b)) (all-at (sameForm f g) lo n t k h)) ∙ form-back (g b)
+
+-- the first bytes of short maps and arrays
+pub short-map : {b : ℕ} → b < 0x90 → 0x80 ≤ b → formOf b ≡ Map 0 (2 * (b - 0x80))
+unfolding formOf
+short-map = agree formOf (λ b. Map 0 (2 * (b - 0x80))) 0x80 16 tt
+
+pub short-array : {b : ℕ} → b < 0xa0 → 0x90 ≤ b → formOf b ≡ Array 0 (b - 0x90)
+unfolding formOf
+short-array = agree formOf (λ b. Array 0 (b - 0x90)) 0x90 16 tt

@@ -1,11 +1,11 @@
 -- A rule at every number of a range, by one test that antt computes. Assumes nothing.
-use mathlib.Core.Path.{subst}
+use mathlib.Core.Path.{_≡_, subst}
 use mathlib.Core.Bool.{Bool, true, false}
 use mathlib.Core.Logic.{⊎-elim}
 use Prim.Native.Nat.{ℕ, zero, suc, _+_, _<_, _≤_}
 use native.Mathlib.Nat.{eq-or-lt-of-le}
 use native.Mathlib.Omega.{arith}
-use lib.Dec.{T}
+use lib.Dec.{T, eqb, eqb→eq}
 
 abbrev pub both : Bool → Bool → Bool
 both true b = b
@@ -24,9 +24,13 @@ abbrev pub all : (ℕ → Bool) → ℕ → ℕ → Bool
 all p lo zero = true
 all p lo (suc n) = both (p lo) (all p (suc lo) n)
 
-pub all-at : (p : ℕ → Bool) (lo n : ℕ) → T (all p lo n) → (b : ℕ) → lo ≤ b → b < lo + n → T (p b)
-all-at p lo zero t b h k = absurd (let z : ⊥ = omega arith in z)
-all-at p lo (suc n) t b h k =
+pub all-at : (p : ℕ → Bool) (lo n : ℕ) → T (all p lo n) → {b : ℕ} → b < lo + n → lo ≤ b → T (p b)
+all-at p lo zero t k h = absurd (let z : ⊥ = omega arith in z)
+all-at p lo (suc n) t k h =
     ⊎-elim (λ e. subst (λ (m : ℕ). T (p m)) e (both-left (p lo) (all p (suc lo) n) t))
-    (λ l. all-at p (suc lo) n (both-right (p lo) (all p (suc lo) n) t) b l (omega arith))
+    (λ l. all-at p (suc lo) n (both-right (p lo) (all p (suc lo) n) t) (omega arith) l)
     (eq-or-lt-of-le h)
+
+-- two functions agree at each of the n numbers from lo
+pub agrees : (f g : ℕ → ℕ) (lo n : ℕ) → T (all (λ b. eqb (f b) (g b)) lo n) → {b : ℕ} → b < lo + n → lo ≤ b → f b ≡ g b
+agrees f g lo n t {b} k h = eqb→eq (f b) (g b) (all-at (λ b. eqb (f b) (g b)) lo n t k h)

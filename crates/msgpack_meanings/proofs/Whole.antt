@@ -12,7 +12,7 @@ use Rattle.msgpack_first_bytes.specs.declared.Kind.{Kind}
 use Rattle.msgpack_first_bytes.specs.declared.Form.{Form}
 use Rattle.msgpack_first_bytes.specs.declared.Form.the-variants.{Unused, Scalar, Array, Map}
 use Rattle.msgpack_first_bytes.proofs.Range.{all-at}
-use Rattle.msgpack_values.specs.Number.{number}
+use Rattle.msgpack_first_bytes.specs.Number.{number}
 use Rattle.msgpack_values.specs.Value.{shift, payload, sized, value}
 use Rattle.msgpack_values.specs.declared.Read.{Read}
 use Rattle.msgpack_values.specs.declared.Read.the-variants.{Whole, Broken}
@@ -38,7 +38,7 @@ typed (Map w f) = true
 type-due : (b : ℕ) (k : Kind) (w f : ℕ) → b < 256 → Scalar k w f ≡ formOf b → typeBytes k ≤ f
 unfolding typed typeBytes sameKind formOf
 type-due b k w f h e =
-    leb→le (typeBytes k) f (subst (λ (x : Form). T (typed x)) (sym e) (all-at (λ b. typed (formOf b)) 0 256 tt b (omega arith) (omega arith)))
+    leb→le (typeBytes k) f (subst (λ (x : Form). T (typed x)) (sym e) (all-at (λ b. typed (formOf b)) 0 256 tt h (omega arith)))
 
 -- a scalar's first byte, its length bytes and what its first byte asks for
 scalar-least : (w f m : ℕ) (t : Bytes) → sized w (λ n r. payload (n + f) r) t ≡ Whole m → w + f ≤ m

@@ -14,8 +14,8 @@ use Rattle.msgpack_first_bytes.specs.declared.Kind.{Kind}
 use Rattle.msgpack_first_bytes.specs.declared.Kind.the-variants.{Unsigned, Signed, String}
 use Rattle.msgpack_first_bytes.specs.declared.Form.{Form}
 use Rattle.msgpack_first_bytes.specs.declared.Form.the-variants.{Scalar, Array, Map}
-use Rattle.msgpack_first_bytes.proofs.Forms.{agree}
-use Rattle.msgpack_values.specs.Number.{number}
+use Rattle.msgpack_first_bytes.proofs.Forms.{agree, short-map, short-array}
+use Rattle.msgpack_first_bytes.specs.Number.{number}
 use Rattle.msgpack_values.specs.Value.{shift, payload, sized, items, byForm, one, container, value, inside}
 use Rattle.msgpack_values.specs.Pieces.{joined, Each}
 use Rattle.msgpack_values.specs.declared.Read.{Read}
@@ -35,7 +35,7 @@ use Rattle.msgpack_scalars.specs.declared.Int.the-variants.{FromZero, BelowZero
 use Rattle.msgpack_scalars.specs.declared.Integer.the-variants.{Is as IsInt}
 use Rattle.msgpack_scalars.specs.declared.Header.the-variants.{Is as IsHeader}
 use Rattle.msgpack_writing.specs.Forms.{bigEndian, tagged, unsignedForm, negativeForm, stringHeader, stringForm, countHeader, arrayHeader, mapHeader}
-use Rattle.msgpack_writing.proofs.Choice.{by-ltb}
+use Rattle.msgpack_first_bytes.proofs.Logic.{by-ltb}
 use Rattle.msgpack_writing.proofs.Lengths.{length-bigEndian}
 use Rattle.msgpack_read_back.specs.Claims.{integerForm, InRange, NumbersReadBack, StringsReadBack, ContainersReadBack}
 use Rattle.msgpack_read_back.proofs.Digits.{number-bigEndian}
@@ -59,17 +59,17 @@ module _ (w x : ℕ) (t : Bytes) where
 
 -- ---- numbers: p is a first byte of the kind and its f bytes, which `of` reads as z, whatever follows
 
-data Means {A : Type 0} (kind : Kind) (of : ℕ → Bytes → A) (z : A) : Bytes → Type 0 where
-  means : (b f x : ℕ) → formOf b ≡ Scalar kind 0 f → ((t : Bytes) → of f (b ∷ (bigEndian f x ++ t)) ≡ z) → Means kind of z (tagged b f x)
+data Encodes {A : Type 0} (kind : Kind) (of : ℕ → Bytes → A) (z : A) : Bytes → Type 0 where
+  encodes : (b f x : ℕ) → formOf b ≡ Scalar kind 0 f → ((t : Bytes) → of f (b ∷ (bigEndian f x ++ t)) ≡ z) → Encodes kind of z (tagged b f x)
 
-unsigned-shape : (n : ℕ) → n < 2 ^ 64 → Means Unsigned naturalOf n (unsignedForm n)
+unsigned-shape : (n : ℕ) → n < 2 ^ 64 → Encodes Unsigned naturalOf n (unsignedForm n)
 unfolding unsignedForm bigEndian formOf naturalOf
 unsigned-shape n h =
-    by-ltb (Means Unsigned naturalOf n) n 128 (λ k. means n 0 0 (agree formOf (λ _. Scalar Unsigned 0 0) 0 128 tt n (omega arith) (omega arith)) (λ t. refl))
-    (λ _. by-ltb (Means Unsigned naturalOf n) n (2 ^ 8) (λ k. means 0xcc 1 n refl (λ t. digits-back 1 n t k))
-    (λ _. by-ltb (Means Unsigned naturalOf n) n (2 ^ 16) (λ k. means 0xcd 2 n refl (λ t. digits-back 2 n t k))
-    (λ _. by-ltb (Means Unsigned naturalOf n) n (2 ^ 32) (λ k. means 0xce 4 n refl (λ t. digits-back 4 n t k))
-    (λ _. means 0xcf 8 n refl (λ t. digits-back 8 n t h)))))
+    by-ltb (Encodes Unsigned naturalOf n) n 128 (λ k. encodes n 0 0 (agree formOf (λ _. Scalar Unsigned 0 0) 0 128 tt k (omega arith)) (λ t. refl))
+    (λ _. by-ltb (Encodes Unsigned naturalOf n) n (2 ^ 8) (λ k. encodes 0xcc 1 n refl (λ t. digits-back 1 n t k))
+    (λ _. by-ltb (Encodes Unsigned naturalOf n) n (2 ^ 16) (λ k. encodes 0xcd 2 n refl (λ t. digits-back 2 n t k))
+    (λ _. by-ltb (Encodes Unsigned naturalOf n) n (2 ^ 32) (λ k. encodes 0xce 4 n refl (λ t. digits-back 4 n t k))
+    (λ _. encodes 0xcf 8 n refl (λ t. digits-back 8 n t h)))))
 
 signed-back : (b f m : ℕ) (t : Bytes) → 2 ^ (8 * suc f) ≡ 256 ^ suc f → m < 2 ^ (8 * suc f - 1)
     → signedOf (suc f) (b ∷ (bigEndian (suc f) (2 ^ (8 * suc f) - 1 - m) ++ t)) ≡ BelowZero m
@@ -79,30 +79,30 @@ signed-back b f m t p h =
     let x = 2 ^ (8 * suc f) - 1 - m in
     rw (digits-back (suc f) x t (omega arith), le-ltb x (2 ^ (8 * suc f - 1)) (omega arith)) (ap BelowZero (omega arith))
 
-negative-shape : (m : ℕ) → m < 2 ^ 63 → Means Signed signedOf (BelowZero m) (negativeForm m)
+negative-shape : (m : ℕ) → m < 2 ^ 63 → Encodes Signed signedOf (BelowZero m) (negativeForm m)
 unfolding negativeForm bigEndian formOf signedOf
 negative-shape m h =
-    by-ltb (Means Signed signedOf (BelowZero m)) m 32
-    (λ k. means (255 - m) 0 0 (agree formOf (λ _. Scalar Signed 0 0) 0xe0 32 tt (255 - m) (omega arith) (omega arith)) (λ t. ap BelowZero (omega arith)))
-    (λ _. by-ltb (Means Signed signedOf (BelowZero m)) m (2 ^ 7) (λ k. means 0xd0 1 (2 ^ 8 - 1 - m) refl (λ t. signed-back 0xd0 0 m t refl k))
-    (λ _. by-ltb (Means Signed signedOf (BelowZero m)) m (2 ^ 15) (λ k. means 0xd1 2 (2 ^ 16 - 1 - m) refl (λ t. signed-back 0xd1 1 m t refl k))
-    (λ _. by-ltb (Means Signed signedOf (BelowZero m)) m (2 ^ 31) (λ k. means 0xd2 4 (2 ^ 32 - 1 - m) refl (λ t. signed-back 0xd2 3 m t refl k))
-    (λ _. by-ltb (Means Signed signedOf (BelowZero m)) m (2 ^ 63) (λ k. means 0xd3 8 (2 ^ 64 - 1 - m) refl (λ t. signed-back 0xd3 7 m t refl k))
+    by-ltb (Encodes Signed signedOf (BelowZero m)) m 32
+    (λ k. encodes (255 - m) 0 0 (agree formOf (λ _. Scalar Signed 0 0) 0xe0 32 tt {b = 255 - m} (omega arith) (omega arith)) (λ t. ap BelowZero (omega arith)))
+    (λ _. by-ltb (Encodes Signed signedOf (BelowZero m)) m (2 ^ 7) (λ k. encodes 0xd0 1 (2 ^ 8 - 1 - m) refl (λ t. signed-back 0xd0 0 m t refl k))
+    (λ _. by-ltb (Encodes Signed signedOf (BelowZero m)) m (2 ^ 15) (λ k. encodes 0xd1 2 (2 ^ 16 - 1 - m) refl (λ t. signed-back 0xd1 1 m t refl k))
+    (λ _. by-ltb (Encodes Signed signedOf (BelowZero m)) m (2 ^ 31) (λ k. encodes 0xd2 4 (2 ^ 32 - 1 - m) refl (λ t. signed-back 0xd2 3 m t refl k))
+    (λ _. by-ltb (Encodes Signed signedOf (BelowZero m)) m (2 ^ 63) (λ k. encodes 0xd3 8 (2 ^ 64 - 1 - m) refl (λ t. signed-back 0xd3 7 m t refl k))
     (λ k. absurd (omega arith))))))
 
 -- what each reader says of such a p
-unsigned-of : {n : ℕ} {p : Bytes} (t : Bytes) → Means Unsigned naturalOf n p → unsigned (p ++ t) ≡ Is n (length p)
+unsigned-of : {n : ℕ} {p : Bytes} (t : Bytes) → Encodes Unsigned naturalOf n p → unsigned (p ++ t) ≡ Is n (length p)
 unfolding unsigned unsignedBy due dueIn sameKind
-unsigned-of t (means b f x e r) = rw (e, le-leb f _ (there f x t), r t, length-bigEndian f x, one-add)
+unsigned-of t (encodes b f x e r) = rw (e, le-leb f _ (there f x t), r t, length-bigEndian f x, one-add)
 
-negative-of : {z : Int} {p : Bytes} (t : Bytes) → Means Signed signedOf z p → integer (p ++ t) ≡ IsInt z (length p)
+negative-of : {z : Int} {p : Bytes} (t : Bytes) → Encodes Signed signedOf z p → integer (p ++ t) ≡ IsInt z (length p)
 unfolding integer adding unsigned unsignedBy signed signedBy due dueIn sameKind
-negative-of t (means b f x e r) = rw (e, le-leb f _ (there f x t), r t, length-bigEndian f x, one-add)
+negative-of t (encodes b f x e r) = rw (e, le-leb f _ (there f x t), r t, length-bigEndian f x, one-add)
 
-whole-of : {A : Type 0} {kind : Kind} {of : ℕ → Bytes → A} {z : A} {p : Bytes} (d : ℕ) (t : Bytes) → Means kind of z p
+whole-of : {A : Type 0} {kind : Kind} {of : ℕ → Bytes → A} {z : A} {p : Bytes} (d : ℕ) (t : Bytes) → Encodes kind of z p
     → value d (p ++ t) ≡ Whole (length p)
 unfolding one byForm sized payload number
-whole-of d t (means b f x e r) =
+whole-of d t (encodes b f x e r) =
     rw (value-one, e, zero-add, le-leb 0 (length (bigEndian f x ++ t)) (omega arith), le-leb f _ (there f x t), zero-add, length-bigEndian f x, one-add)
 
 pub unsigned-back : (n : ℕ) (t : Bytes) → n < 2 ^ 64 → unsigned (unsignedForm n ++ t) ≡ Is n (length (unsignedForm n))
@@ -126,7 +126,7 @@ string-shape : (n : ℕ) → n < 2 ^ 32 → Counts (Scalar String) n (stringHead
 unfolding stringHeader bigEndian formOf
 string-shape n h =
     by-ltb (Counts (Scalar String) n) n 32
-    (λ k. counts (0xa0 + n) 0 n 0 (agree formOf (λ b. Scalar String 0 (b - 0xa0)) 0xa0 32 tt (0xa0 + n) (omega arith) (omega arith) ∙ ap (Scalar String 0) (omega arith)) (omega arith) (omega arith))
+    (λ k. counts (0xa0 + n) 0 n 0 (agree formOf (λ b. Scalar String 0 (b - 0xa0)) 0xa0 32 tt {b = 0xa0 + n} (omega arith) (omega arith) ∙ ap (Scalar String 0) (omega arith)) (omega arith) (omega arith))
     (λ _. by-ltb (Counts (Scalar String) n) n (2 ^ 8) (λ k. counts 0xd9 1 0 n refl k (add-zero n))
     (λ _. by-ltb (Counts (Scalar String) n) n (2 ^ 16) (λ k. counts 0xda 2 0 n refl k (add-zero n))
     (λ _. counts 0xdb 4 0 n refl h (add-zero n))))
@@ -140,9 +140,7 @@ count-shape form short long n e f g h =
 
 array-shape : (n : ℕ) → n < 2 ^ 32 → Counts Array n (arrayHeader n)
 unfolding arrayHeader formOf
-array-shape n =
-    count-shape Array 0x90 0xdc n
-    (λ k. agree formOf (λ b. Array 0 (b - 0x90)) 0x90 16 tt (0x90 + n) (omega arith) (omega arith) ∙ ap (Array 0) (omega arith)) refl refl
+array-shape n = count-shape Array 0x90 0xdc n (λ k. short-array {b = 0x90 + n} (omega arith) (omega arith) ∙ ap (Array 0) (omega arith)) refl refl
 
 -- a first byte of a map counts a key and a value for each entry
 abbrev MapOf : ℕ → ℕ → Form
@@ -150,16 +148,14 @@ MapOf w f = Map w (2 * f)
 
 map-shape : (n : ℕ) → n < 2 ^ 32 → Counts MapOf n (mapHeader n)
 unfolding mapHeader formOf
-map-shape n =
-    count-shape MapOf 0x80 0xde n
-    (λ k. agree formOf (λ b. Map 0 (2 * (b - 0x80))) 0x80 16 tt (0x80 + n) (omega arith) (omega arith) ∙ ap (Map 0) (omega arith)) refl refl
+map-shape n = count-shape MapOf 0x80 0xde n (λ k. short-map {b = 0x80 + n} (omega arith) (omega arith) ∙ ap (Map 0) (omega arith)) refl refl
 
 header-of : (by : Form → Start) {form : ℕ → ℕ → Form} {n : ℕ} {p : Bytes} (t : Bytes) → ((w f : ℕ) → by (form w f) ≡ Here w f)
     → Counts form n p → header by (p ++ t) ≡ IsHeader n (length p)
 unfolding header
 header-of by t r (counts b w f x e h s) = rw (e, r w f, counted-back w x t f h, s, length-bigEndian w x, one-add)
 
-pub string-header-back : (n : ℕ) (t : Bytes) → n < 2 ^ 32 → header stringBy (stringHeader n ++ t) ≡ IsHeader n (length (stringHeader n))
+string-header-back : (n : ℕ) (t : Bytes) → n < 2 ^ 32 → header stringBy (stringHeader n ++ t) ≡ IsHeader n (length (stringHeader n))
 unfolding sameKind
 string-header-back n t h = header-of stringBy t (λ w f. refl) (string-shape n h)
 
@@ -177,19 +173,19 @@ unfolding one
 begun-of d t due r (counts b w f x e h s) = rw (value-one, e, r w f x h s, shift-shift, length-bigEndian w x, one-add)
 
 module _ (d : ℕ) (t : Bytes) where
-  pub string-begun : (n : ℕ) → n < 2 ^ 32 → value d (stringHeader n ++ t) ≡ shift (length (stringHeader n)) (payload n t)
+  string-begun : (n : ℕ) → n < 2 ^ 32 → value d (stringHeader n ++ t) ≡ shift (length (stringHeader n)) (payload n t)
   unfolding byForm
   string-begun n h =
       begun-of d t (payload n t) (λ w f x k s. rw (sized-back w x t (λ n t. payload (n + f) t) k, s)) (string-shape n h)
 
-  pub array-begun : (n : ℕ) → n < 2 ^ 32 → value (suc d) (arrayHeader n ++ t) ≡ shift (length (arrayHeader n)) (items (value d) n t)
+  array-begun : (n : ℕ) → n < 2 ^ 32 → value (suc d) (arrayHeader n ++ t) ≡ shift (length (arrayHeader n)) (items (value d) n t)
   unfolding byForm inside container
   array-begun n h =
       begun-of (suc d) t (items (value d) n t)
       (λ w f x k s. let e : x * 1 + f ≡ n = omega arith in rw (sized-back w x t (λ n t. items (value d) (n * 1 + f) t) k, e))
       (array-shape n h)
 
-  pub map-begun : (n : ℕ) → n < 2 ^ 32 → value (suc d) (mapHeader n ++ t) ≡ shift (length (mapHeader n)) (items (value d) (2 * n) t)
+  map-begun : (n : ℕ) → n < 2 ^ 32 → value (suc d) (mapHeader n ++ t) ≡ shift (length (mapHeader n)) (items (value d) (2 * n) t)
   unfolding byForm inside container
   map-begun n h =
       begun-of (suc d) t (items (value d) (2 * n) t)
@@ -210,7 +206,7 @@ pub string-whole : (d : ℕ) (s t : Bytes) → length s < 2 ^ 32 → value d (st
 string-whole d s t h = completed (value d) (stringHeader (length s)) s t _ (string-begun d (s ++ t) (length s) h) (payload-whole s t)
 
 module _ (d n : ℕ) (fs : List Bytes) (t : Bytes) (e : Each (value d) fs) where
-  pub array-whole : length fs ≡ n → n < 2 ^ 32 → value (suc d) ((arrayHeader n ++ joined fs) ++ t) ≡ Whole (length (arrayHeader n ++ joined fs))
+  array-whole : length fs ≡ n → n < 2 ^ 32 → value (suc d) ((arrayHeader n ++ joined fs) ++ t) ≡ Whole (length (arrayHeader n ++ joined fs))
   array-whole l h =
       completed (value (suc d)) (arrayHeader n) (joined fs) t _ (array-begun d (joined fs ++ t) n h)
       (rw l at (items-joined (value d) (value-good d) e t .0))

@@ -1,20 +1,20 @@
 -- No form that is read as a number, a length or a count is shorter than the form that is written: a larger number has no shorter form,
 -- and the greatest number that a first byte can say has one that is no longer; that is one test over all first bytes. Assumes nothing.
 use mathlib.Core.Path.{_≡_, refl}
-use mathlib.Core.Bool.{Bool, true, false}
+use mathlib.Core.Bool.{Bool, true}
 use mathlib.Core.List.{[], _∷_}
 use Prim.Native.Nat.{ℕ, zero, suc, _+_, _-_, _*_, _^_, _≤_}
 use native.Mathlib.Omega.{arith}
-use borrow.Author.Tests.{leb-true}
 use lib.Dec.{T, leb, leb→le}
 use lib.ListN.{length, take}
-use Rattle.msgpack_first_bytes.specs.Bytes.{Bytes, pick}
+use Rattle.msgpack_first_bytes.specs.Bytes.{Bytes}
 use Rattle.msgpack_first_bytes.specs.FirstByte.{formOf, sameKind}
 use Rattle.msgpack_first_bytes.specs.declared.Kind.{Kind}
 use Rattle.msgpack_first_bytes.specs.declared.Kind.the-variants.{Unsigned, Signed}
 use Rattle.msgpack_first_bytes.specs.declared.Form.{Form}
+use Rattle.msgpack_first_bytes.proofs.Logic.{impossible, by-leb, by-ltb}
 use Rattle.msgpack_first_bytes.proofs.Range.{both, both-left, both-right, all, all-at}
-use Rattle.msgpack_values.specs.Number.{number}
+use Rattle.msgpack_first_bytes.specs.Number.{number}
 use Rattle.msgpack_scalars.specs.Start.{scalarOf, stringBy, arrayBy, mapBy}
 use Rattle.msgpack_scalars.specs.Integer.{dueIn, due, naturalOf, unsignedBy, unsigned, twosComplement, signedOf, signedBy, signed, adding, integer}
 use Rattle.msgpack_scalars.specs.Header.{counted, header}
@@ -22,25 +22,15 @@ use Rattle.msgpack_scalars.specs.declared.Start.{Start}
 use Rattle.msgpack_scalars.specs.declared.Start.the-variants.{Here, Elsewhere}
 use Rattle.msgpack_scalars.specs.declared.Due.{Due}
 use Rattle.msgpack_scalars.specs.declared.Due.the-variants.{More, Cut as CutDue, Other as OtherDue}
-use Rattle.msgpack_scalars.specs.declared.Natural.{Natural}
-use Rattle.msgpack_scalars.specs.declared.Natural.the-variants.{Is, Cut, Other}
 use Rattle.msgpack_scalars.specs.declared.Int.{Int}
 use Rattle.msgpack_scalars.specs.declared.Int.the-variants.{FromZero}
 use Rattle.msgpack_scalars.specs.declared.Integer.the-variants.{Is as IsInt}
+use Rattle.msgpack_scalars.specs.declared.Header.{Header}
 use Rattle.msgpack_scalars.specs.declared.Header.the-variants.{Is as IsHeader}
 use Rattle.msgpack_writing.specs.Forms.{bigEndian, unsignedForm, negativeForm, stringHeader, arrayHeader, mapHeader}
-use Rattle.msgpack_writing.proofs.Choice.{by-ltb}
 use Rattle.msgpack_writing.proofs.Lengths.{unsigned-mono, negative-mono, string-mono, array-mono, map-mono}
 use Rattle.msgpack_read_back.specs.Claims.{Octets, integerForm, Shortest}
 use Rattle.msgpack_read_back.proofs.Digits.{number-take}
-
--- where a test chose z, and not y, it held
-chosen : {A : Type 0} (a b : ℕ) {x y z : A} → (y ≡ z → ⊥) → pick (leb a b) x y ≡ z → (a ≤ b) × (x ≡ z)
-chosen a b {x} {y} {z} never e = go (leb a b) refl e
-  where
-    go : (t : Bool) → leb a b ≡ t → pick t x y ≡ z → (a ≤ b) × (x ≡ z)
-    go true q e = (leb-true a b q, e)
-    go false q e = absurd (never e)
 
 -- ---- headers
 
@@ -52,35 +42,24 @@ headerTest form Elsewhere = true
 module _ (form : ℕ → Bytes) (mono : (n m : ℕ) → n ≤ m → length (form n) ≤ length (form m)) where
   counted-short : (x : Start) → T (headerTest form x) → (s : Bytes) → Octets s → (n k : ℕ) → counted x s ≡ IsHeader n k → length (form n) ≤ k
   unfolding counted
-  counted-short (Here w f) t s o n k e =
-      let c = chosen w (length s) (λ z. let y : _≡_ {A = ℕ} 0 1 = cc in omega arith) e in
-      let q : IsHeader (number (take w s) + f) (1 + w) ≡ IsHeader n k = c .1 in
-      let en : number (take w s) + f ≡ n = cc in
-      let ek : 1 + w ≡ k = cc in
-      let b = number-take w s o (c .0) in
-      let m : length (form n) ≤ length (form (256 ^ w - 1 + f)) = mono n (256 ^ w - 1 + f) (omega arith) in
-      let l : length (form (256 ^ w - 1 + f)) ≤ 1 + w = leb→le _ _ t in
-      omega arith
-  counted-short Elsewhere t s o n k e = absurd (let z : _≡_ {A = ℕ} 0 1 = cc in omega arith)
+  counted-short (Here w f) t s o n k e = by-leb (λ (h : Header). h ≡ IsHeader n k → length (form n) ≤ k) w (length s) fits (λ _ q. impossible cc) e
+    where
+      fits : w ≤ length s → IsHeader (number (take w s) + f) (1 + w) ≡ IsHeader n k → length (form n) ≤ k
+      fits h q =
+          let en : number (take w s) + f ≡ n = cc in
+          let ek : 1 + w ≡ k = cc in
+          let b = number-take w s o h in
+          let m : length (form n) ≤ length (form (256 ^ w - 1 + f)) = mono n (256 ^ w - 1 + f) (omega arith) in
+          let l : length (form (256 ^ w - 1 + f)) ≤ 1 + w = leb→le _ _ t in
+          omega arith
+  counted-short Elsewhere t s o n k e = impossible cc
 
   header-short : (by : Form → Start) → T (all (λ b. headerTest form (by (formOf b))) 0 256) → (s : Bytes) → Octets s → (n k : ℕ)
       → header by s ≡ IsHeader n k → length (form n) ≤ k
   unfolding header
-  header-short by t [] o n k e = absurd (let z : _≡_ {A = ℕ} 0 1 = cc in omega arith)
+  header-short by t [] o n k e = impossible cc
   header-short by t (b ∷ s) o n k e =
-      counted-short (by (formOf b)) (all-at (λ b. headerTest form (by (formOf b))) 0 256 t b (omega arith) (omega (arith, o 0))) s (λ i. o (suc i)) n k e
-
-pub string-shortest : (s : Bytes) → Octets s → (n k : ℕ) → header stringBy s ≡ IsHeader n k → length (stringHeader n) ≤ k
-unfolding sameKind formOf stringHeader bigEndian
-string-shortest = header-short stringHeader string-mono stringBy tt
-
-pub array-shortest : (s : Bytes) → Octets s → (n k : ℕ) → header arrayBy s ≡ IsHeader n k → length (arrayHeader n) ≤ k
-unfolding formOf arrayHeader bigEndian
-array-shortest = header-short arrayHeader array-mono arrayBy tt
-
-pub map-shortest : (s : Bytes) → Octets s → (n k : ℕ) → header mapBy s ≡ IsHeader n k → length (mapHeader n) ≤ k
-unfolding formOf mapHeader bigEndian
-map-shortest = header-short mapHeader map-mono mapBy tt
+      counted-short (by (formOf b)) (all-at (λ b. headerTest form (by (formOf b))) 0 256 t (o 0) (omega arith)) s (λ i. o (suc i)) n k e
 
 -- ---- numbers
 
@@ -96,17 +75,15 @@ number-short : (kind : Kind) (of : ℕ → Bytes → Int) (test : ℕ → ℕ �
     → T (all (λ b. startTest test b (scalarOf kind (formOf b))) 0 256) → (s : Bytes) → Octets s → (f : ℕ) → due kind s ≡ More f
     → length (integerForm (of f s)) ≤ 1 + f
 unfolding due dueIn
-number-short kind of test h t [] o f e = absurd (let z : _≡_ {A = ℕ} 0 1 = cc in omega arith)
+number-short kind of test h t [] o f e = impossible cc
 number-short kind of test h t (b ∷ s) o f e =
-    go (scalarOf kind (formOf b)) (all-at (λ b. startTest test b (scalarOf kind (formOf b))) 0 256 t b (omega arith) (omega (arith, o 0))) e
+    go (scalarOf kind (formOf b)) (all-at (λ b. startTest test b (scalarOf kind (formOf b))) 0 256 t (o 0) (omega arith)) e
   where
     go : (x : Start) → T (startTest test b x) → dueIn x s ≡ More f → length (integerForm (of f (b ∷ s))) ≤ 1 + f
     go (Here w g) t e =
-        let c = chosen g (length s) (λ z. let y : _≡_ {A = ℕ} 0 1 = cc in omega arith) e in
-        let q : More g ≡ More f = c .1 in
-        let i : g ≡ f = cc in
-        rw (← i) (h b g t s (λ i. o (suc i)) (c .0))
-    go Elsewhere t e = absurd (let z : _≡_ {A = ℕ} 0 1 = cc in omega arith)
+        by-leb (λ (d : Due). d ≡ More f → length (integerForm (of f (b ∷ s))) ≤ 1 + f) g (length s)
+        (λ l q. let i : g ≡ f = cc in rw (← i) (h b g t s (λ i. o (suc i)) l)) (λ _ q. impossible cc) e
+    go Elsewhere t e = impossible cc
 
 -- the greatest number that a first byte b and f bytes say
 abbrev most : ℕ → ℕ → ℕ
@@ -155,44 +132,30 @@ signed-short b (suc f) t s o h =
     (λ k. let m = unsigned-mono n (top (suc f)) (omega arith) in omega arith)
     (λ k. let m = negative-mono (2 ^ (8 * suc f) - 1 - n) (bottom (suc f)) (omega arith) (omega arith) in omega arith)
 
-pub unsigned-shortest : (s : Bytes) → Octets s → (n k : ℕ) → unsigned s ≡ Is n k → length (unsignedForm n) ≤ k
-unfolding unsigned unsignedBy sameKind formOf unsignedForm bigEndian
-unsigned-shortest s o n k e = go (due Unsigned s) refl e
+-- in every form that is read as an integer, the signed ones of numbers from 0 up too
+integer-shortest : (s : Bytes) → Octets s → (z : Int) (k : ℕ) → integer s ≡ IsInt z k → length (integerForm z) ≤ k
+unfolding integer adding unsigned unsignedBy signed signedBy sameKind formOf unsignedForm negativeForm bigEndian
+integer-shortest s o z k e = go (due Unsigned s) refl (due Signed s) refl e
   where
-    go : (d : Due) → due Unsigned s ≡ d → unsignedBy d s ≡ Is n k → length (unsignedForm n) ≤ k
-    go (More f) q e =
-        let l = number-short Unsigned (λ f s. FromZero (naturalOf f s)) unsignedTest unsigned-short tt s o f q in
-        let en : naturalOf f s ≡ n = cc in
+    go : (d : Due) → due Unsigned s ≡ d → (c : Due) → due Signed s ≡ c → adding (unsignedBy d s) (signedBy c s) ≡ IsInt z k → length (integerForm z) ≤ k
+    go (More f) q c r e =
+        let ez : FromZero (naturalOf f s) ≡ z = cc in
         let ek : 1 + f ≡ k = cc in
-        rw (← en, ← ek) l
-    go CutDue q e = absurd (let z : _≡_ {A = ℕ} 0 1 = cc in omega arith)
-    go OtherDue q e = absurd (let z : _≡_ {A = ℕ} 0 1 = cc in omega arith)
-
-signed-shortest : (s : Bytes) → Octets s → (z : Int) (k : ℕ) → signed s ≡ IsInt z k → length (integerForm z) ≤ k
-unfolding signed signedBy sameKind formOf unsignedForm negativeForm bigEndian
-signed-shortest s o z k e = go (due Signed s) refl e
-  where
-    go : (d : Due) → due Signed s ≡ d → signedBy d s ≡ IsInt z k → length (integerForm z) ≤ k
-    go (More f) q e =
-        let l = number-short Signed signedOf signedTest signed-short tt s o f q in
+        rw (← ez, ← ek) (number-short Unsigned (λ f s. FromZero (naturalOf f s)) unsignedTest unsigned-short tt s o f q)
+    go CutDue q c r e = impossible cc
+    go OtherDue q (More f) r e =
         let ez : signedOf f s ≡ z = cc in
         let ek : 1 + f ≡ k = cc in
-        rw (← ez, ← ek) l
-    go CutDue q e = absurd (let z : _≡_ {A = ℕ} 0 1 = cc in omega arith)
-    go OtherDue q e = absurd (let z : _≡_ {A = ℕ} 0 1 = cc in omega arith)
-
--- in every form that is read as an integer, the signed ones of numbers from 0 up too
-pub integer-shortest : (s : Bytes) → Octets s → (z : Int) (k : ℕ) → integer s ≡ IsInt z k → length (integerForm z) ≤ k
-unfolding integer adding
-integer-shortest s o z k e = go (unsigned s) refl e
-  where
-    go : (r : Natural) → unsigned s ≡ r → adding r (signed s) ≡ IsInt z k → length (integerForm z) ≤ k
-    go (Is n j) q e =
-        let ez : FromZero n ≡ z = cc in
-        let ek : j ≡ k = cc in
-        rw (← ez, ← ek) (unsigned-shortest s o n j q)
-    go Cut q e = absurd (let z : _≡_ {A = ℕ} 0 1 = cc in omega arith)
-    go Other q e = signed-shortest s o z k e
+        rw (← ez, ← ek) (number-short Signed signedOf signedTest signed-short tt s o f r)
+    go OtherDue q CutDue r e = impossible cc
+    go OtherDue q OtherDue r e = impossible cc
 
 pub shortest : Shortest
-shortest = record { number = integer-shortest; string = string-shortest; array = array-shortest; entries = map-shortest }
+unfolding sameKind formOf stringHeader arrayHeader mapHeader bigEndian
+shortest =
+    record {
+      number = integer-shortest;
+      string = header-short stringHeader string-mono stringBy tt;
+      array = header-short arrayHeader array-mono arrayBy tt;
+      entries = header-short mapHeader map-mono mapBy tt;
+    }

@@ -1,27 +1,27 @@
 -- What each step of reading a number or a header says of the definition. Assumes nothing.
-use mathlib.Core.Path.{_≡_, refl, sym, subst, ap, _∙_}
+use mathlib.Core.Path.{_≡_, refl, ap, _∙_}
 use mathlib.Core.List.{[], _∷_}
-use mathlib.Core.Bool.{Bool, true, false}
+use mathlib.Core.Bool.{Bool, true}
 use Prim.Native.Nat.{ℕ, zero, suc, _+_, _-_, _*_, _^_, _<_, _≤_}
 use native.Mathlib.Nat.{add-zero}
 use native.Mathlib.Numerals.{add-one}
 use native.Mathlib.Omega.{arith}
-use borrow.Author.Tests.{leb-true, le-leb, lt-leb, lt-ltb, le-ltb}
+use borrow.Author.Tests.{le-leb, lt-leb, lt-ltb, le-ltb}
 use lib.Dec.{T, leb, leb→le}
 use lib.Pow.{pow-add}
 use lib.ListN.{length, take, drop, getD, length-drop, drop-of-length-le}
 use lib.Seq.{drop-cons, drop-drop, getD-drop}
-use Rattle.msgpack_first_bytes.specs.Bytes.{Bytes, pick}
+use Rattle.msgpack_first_bytes.specs.Bytes.{Bytes}
 use Rattle.msgpack_first_bytes.specs.FirstByte.{formOf, sameKind}
 use Rattle.msgpack_first_bytes.specs.declared.Kind.{Kind}
-use Rattle.msgpack_first_bytes.specs.declared.Kind.the-variants.{Unsigned, Signed}
 use Rattle.msgpack_first_bytes.specs.declared.Form.{Form}
+use Rattle.msgpack_first_bytes.proofs.Logic.{impossible, by-leb}
 use Rattle.msgpack_first_bytes.proofs.Range.{both, both-left, both-right, all, all-at}
-use Rattle.msgpack_values.specs.Number.{number, numberAt}
-use Rattle.msgpack_values.specs.declared.Number.the-variants.{Is as IsNumber}
-use Rattle.msgpack_values.proofs.Laws.{number-is}
+use Rattle.msgpack_first_bytes.specs.Number.{number, numberAt}
+use Rattle.msgpack_first_bytes.specs.declared.Number.the-variants.{Is as IsNumber, Missing}
+use Rattle.msgpack_first_bytes.proofs.Big.{number-missing, number-is}
 use Rattle.msgpack_scalars.specs.Start.{scalarOf, stringBy, arrayBy, mapBy, startBy, Few}
-use Rattle.msgpack_scalars.specs.Integer.{dueIn, due, naturalOf, unsigned, twosComplement, signedOf, signed, adding, integer, shiftNatural, shiftInteger}
+use Rattle.msgpack_scalars.specs.Integer.{dueIn, due, naturalOf, twosComplement, signedOf, adding, shiftNatural, shiftInteger}
 use Rattle.msgpack_scalars.specs.Header.{counted, header, shiftHeader}
 use Rattle.msgpack_scalars.specs.declared.Opening.{Opening}
 use Rattle.msgpack_scalars.specs.declared.Opening.the-variants.{String as Strings, Array as Arrays, Map as Maps}
@@ -31,46 +31,29 @@ use Rattle.msgpack_scalars.specs.declared.Int.the-variants.{FromZero, Be
 use Rattle.msgpack_scalars.specs.declared.Natural.{Natural}
 use Rattle.msgpack_scalars.specs.declared.Natural.the-variants.{Is as IsNat, Cut as CutNat, Other as OtherNat}
 use Rattle.msgpack_scalars.specs.declared.Integer.{Integer}
-use Rattle.msgpack_scalars.specs.declared.Integer.the-variants.{Is as IsInt, Cut as CutInt}
+use Rattle.msgpack_scalars.specs.declared.Due.{Due}
 use Rattle.msgpack_scalars.specs.declared.Due.the-variants.{More, Cut}
 use Rattle.msgpack_scalars.specs.declared.Header.the-variants.{Is as IsHeader, Other as OtherHeader}
 
 -- ---- what a first byte asks for is little: one test over all 256 for each kind of start
 
-little : ℕ → ℕ → Start → Bool
-little a b (Here w f) = both (leb w a) (leb f b)
-little a b Elsewhere = true
+unfoldable pub little : ℕ → Start → Bool
+little most (Here w f) = both (leb w 4) (leb f most)
+little most Elsewhere = true
 
-is-little : (a b w f : ℕ) → T (little a b (Here w f)) → (w ≤ a) × (f ≤ b)
+is-few : (most : ℕ) (x : Start) → T (little most x) → Few most x
 unfolding little
-is-little a b w f t = (leb→le w a (both-left (leb w a) (leb f b) t), leb→le f b (both-right (leb w a) (leb f b) t))
+is-few most (Here w f) t = (leb→le w 4 (both-left (leb w 4) (leb f most) t), leb→le f most (both-right (leb w 4) (leb f most) t))
+is-few most Elsewhere t = tt
 
-abbrev fewAt : (Form → Start) → ℕ → ℕ → Bool
-fewAt by most b = little 4 most (by (formOf b))
+few : (by : Form → Start) (most : ℕ) → T (all (λ b. little most (by (formOf b))) 0 256) → {b : ℕ} → b < 256 → Few most (by (formOf b))
+few by most t {b} h = is-few most (by (formOf b)) (all-at (λ b. little most (by (formOf b))) 0 256 t h (omega arith))
 
-start-little : (by : Form → Start) (most : ℕ) → T (all (fewAt by most) 0 256) → (b : ℕ) → b < 256 → T (little 4 most (by (formOf b)))
-start-little by most t b h = all-at (fewAt by most) 0 256 t b (omega arith) (omega arith)
-
-number-little : (k : Kind) → T (all (fewAt (scalarOf k) 8) 0 256) → (b w f : ℕ) → b < 256 → Here w f ≡ scalarOf k (formOf b) → (w ≤ 4) × (f ≤ 8)
-number-little k t b w f h e = is-little 4 8 w f (subst (λ (x : Start). T (little 4 8 x)) (sym e) (start-little (scalarOf k) 8 t b h))
-
-pub unsigned-little : (b w f : ℕ) → b < 256 → Here w f ≡ scalarOf Unsigned (formOf b) → (w ≤ 4) × (f ≤ 8)
+pub start-few : (o : Opening) {b : ℕ} → b < 256 → Few 31 (startBy o (formOf b))
 unfolding little formOf sameKind
-unsigned-little = number-little Unsigned tt
-
-pub signed-little : (b w f : ℕ) → b < 256 → Here w f ≡ scalarOf Signed (formOf b) → (w ≤ 4) × (f ≤ 8)
-unfolding little formOf sameKind
-signed-little = number-little Signed tt
-
-few : (x : Start) → T (little 4 31 x) → Few x
-few (Here w f) t = is-little 4 31 w f t
-few Elsewhere t = tt
-
-pub start-few : (o : Opening) (b : ℕ) → b < 256 → Few (startBy o (formOf b))
-unfolding little formOf sameKind
-start-few Strings b h = few (stringBy (formOf b)) (start-little stringBy 31 tt b h)
-start-few Arrays b h = few (arrayBy (formOf b)) (start-little arrayBy 31 tt b h)
-start-few Maps b h = few (mapBy (formOf b)) (start-little mapBy 31 tt b h)
+start-few Strings = few stringBy 31 tt
+start-few Arrays = few arrayBy 31 tt
+start-few Maps = few mapBy 31 tt
 
 -- ---- numbers
 
@@ -95,30 +78,27 @@ due-more s at w f k =
     let l : f ≤ length (drop (at + 1) s) = simp length-drop (omega arith) in
     rw (le-leb f (length (drop (at + 1) s)) l)
 
--- what is due is there, and of a number it is little
-module _ (k : Kind) (few : (b w f : ℕ) → b < 256 → Here w f ≡ scalarOf k (formOf b) → (w ≤ 4) × (f ≤ 8)) where
-  due-few : (f : ℕ) (t : Bytes) → getD t 0 0 < 256 → More f ≡ due k t → (f ≤ 8) × (1 + f ≤ length t)
+-- of a kind that asks for little, what is due is there
+module _ (k : Kind) (t : T (all (λ b. little 8 (scalarOf k (formOf b))) 0 256)) where
+  due-few : (f : ℕ) (s : Bytes) → getD s 0 0 < 256 → More f ≡ due k s → (f ≤ 8) × (1 + f ≤ length s)
   unfolding due dueIn
-  due-few f [] h e = absurd (let z : _≡_ {A = ℕ} 0 1 = cc in omega arith)
-  due-few f (b ∷ t) h e = go (scalarOf k (formOf b)) refl e
+  due-few f [] h e = impossible cc
+  due-few f (b ∷ s) h e = go (scalarOf k (formOf b)) (few (scalarOf k) 8 t h) e
     where
-      pass : (w g : ℕ) (c : Bool) → leb g (length t) ≡ c → Here w g ≡ scalarOf k (formOf b) → More f ≡ pick c (More g) Cut → (f ≤ 8) × (1 + f ≤ suc (length t))
-      pass w g true q s e =
-          let i : f ≡ g = cc in
-          let l = leb-true g (length t) q in
-          let m = few b w g h s in
-          (omega arith, omega arith)
-      pass w g false q s e = absurd (let z : _≡_ {A = ℕ} 0 1 = cc in omega arith)
-
-      go : (x : Start) → scalarOf k (formOf b) ≡ x → More f ≡ dueIn x t → (f ≤ 8) × (1 + f ≤ suc (length t))
-      go (Here w g) s e = pass w g (leb g (length t)) refl (sym s) e
-      go Elsewhere s e = absurd (let z : _≡_ {A = ℕ} 0 1 = cc in omega arith)
+      go : (x : Start) → Few 8 x → More f ≡ dueIn x s → (f ≤ 8) × (1 + f ≤ suc (length s))
+      go (Here w g) m e =
+          by-leb (λ (d : Due). More f ≡ d → (f ≤ 8) × (1 + f ≤ suc (length s))) g (length s) (λ l q. let i : f ≡ g = cc in (omega arith, omega arith)) (λ l q. impossible cc) e
+      go Elsewhere m e = impossible cc
 
   pub due-there : (s : Bytes) (at f : ℕ) → getD s at 0 < 256 → More f ≡ due k (drop at s) → (f ≤ 8) × (at + (1 + f) ≤ length s)
   due-there s at f h e =
       let r = due-few f (drop at s) (rw (getD-drop, add-zero) h) e in
       let l = simp length-drop at (r .1) in
       (r .0, omega arith)
+
+-- the number after a first byte is there, and is the one defined
+pub natural-there : (s : Bytes) (at f : ℕ) → f ≤ 8 → at + 1 + f ≤ length s → Missing ≡ numberAt f (at + 1) s → ⊥
+natural-there s at f h l e = omega (arith, number-missing f (at + 1) s h e)
 
 pub natural-more : (s : Bytes) (at f n : ℕ) → 0 < f → IsNumber n ≡ numberAt f (at + 1) s → n ≡ naturalOf f (drop at s)
 unfolding naturalOf
@@ -148,44 +128,14 @@ signed-high s (suc f) n h k e g l b =
     let q : h - 1 - (n - h) ≡ 2 ^ (8 * suc f) - 1 - n = omega arith in
     rw (← e, le-ltb n (2 ^ (8 * suc f - 1)) m) (ap BelowZero q)
 
--- an integer, by what the unsigned number is
-unsigned-shifted : (P : Natural → Integer → Type 0) (at : ℕ) (s : Bytes)
-    → ((u : Natural) → P (shiftNatural at u) (shiftInteger at (adding u (signed s)))) → P (shiftNatural at (unsigned s)) (shiftInteger at (integer s))
-unfolding integer
-unsigned-shifted P at s h = h (unsigned s)
-
-pub adding-is : (at : ℕ) (s : Bytes) (n e : ℕ) → IsNat n e ≡ shiftNatural at (unsigned s) → IsInt (FromZero n) e ≡ shiftInteger at (integer s)
+-- an integer counted from `at` before, by the unsigned number counted so
+pub adding-shift : (at : ℕ) (u : Natural) (z : Integer) → shiftInteger at (adding u z) ≡ adding (shiftNatural at u) (shiftInteger at z)
 unfolding adding
-adding-is at s n e = unsigned-shifted (λ u z. IsNat n e ≡ u → IsInt (FromZero n) e ≡ z) at s go
-  where
-    go : (u : Natural) → IsNat n e ≡ shiftNatural at u → IsInt (FromZero n) e ≡ shiftInteger at (adding u (signed s))
-    go (IsNat m f) q = cc
-    go CutNat q = absurd (let z : _≡_ {A = ℕ} 0 1 = cc in omega arith)
-    go OtherNat q = absurd (let z : _≡_ {A = ℕ} 0 1 = cc in omega arith)
-
-pub adding-cut : (at : ℕ) (s : Bytes) → CutNat ≡ shiftNatural at (unsigned s) → CutInt ≡ shiftInteger at (integer s)
-unfolding adding
-adding-cut at s = unsigned-shifted (λ u z. CutNat ≡ u → CutInt ≡ z) at s go
-  where
-    go : (u : Natural) → CutNat ≡ shiftNatural at u → CutInt ≡ shiftInteger at (adding u (signed s))
-    go (IsNat m f) q = absurd (let z : _≡_ {A = ℕ} 0 1 = cc in omega arith)
-    go CutNat q = refl
-    go OtherNat q = absurd (let z : _≡_ {A = ℕ} 0 1 = cc in omega arith)
-
-pub adding-other : (at : ℕ) (s : Bytes) → OtherNat ≡ shiftNatural at (unsigned s) → shiftInteger at (signed s) ≡ shiftInteger at (integer s)
-unfolding adding
-adding-other at s = unsigned-shifted (λ u z. OtherNat ≡ u → shiftInteger at (signed s) ≡ z) at s go
-  where
-    go : (u : Natural) → OtherNat ≡ shiftNatural at u → shiftInteger at (signed s) ≡ shiftInteger at (adding u (signed s))
-    go (IsNat m f) q = absurd (let z : _≡_ {A = ℕ} 0 1 = cc in omega arith)
-    go CutNat q = absurd (let z : _≡_ {A = ℕ} 0 1 = cc in omega arith)
-    go OtherNat q = refl
+adding-shift at (IsNat m f) z = refl
+adding-shift at CutNat z = refl
+adding-shift at OtherNat z = refl
 
 -- ---- headers
-
-pub header-end : (by : Form → Start) (s : Bytes) (at : ℕ) → length s ≤ at → OtherHeader ≡ shiftHeader at (header by (drop at s))
-unfolding header
-header-end by s at h = rw (drop-of-length-le s h)
 
 pub header-start : (by : Form → Start) (s : Bytes) (at : ℕ) → at < length s → header by (drop at s) ≡ counted (by (formOf (getD s at 0))) (drop (at + 1) s)
 unfolding header

@@ -9,9 +9,9 @@ use Rattle.msgpack_first_bytes.specs.Bytes.{Bytes}
 use Rattle.msgpack_first_bytes.specs.FirstByte.{formOf, sameKind}
 use Rattle.msgpack_first_bytes.specs.declared.Kind.the-variants.{Unsigned}
 use Rattle.msgpack_first_bytes.specs.declared.Form.{Form}
-use Rattle.msgpack_first_bytes.specs.declared.Form.the-variants.{Scalar, Array}
-use Rattle.msgpack_first_bytes.proofs.Forms.{agree}
-use Rattle.msgpack_values.specs.Number.{number}
+use Rattle.msgpack_first_bytes.specs.declared.Form.the-variants.{Scalar}
+use Rattle.msgpack_first_bytes.proofs.Forms.{agree, short-array}
+use Rattle.msgpack_first_bytes.specs.Number.{number}
 use Rattle.msgpack_scalars.specs.Start.{arrayBy}
 use Rattle.msgpack_scalars.specs.Header.{counted, header, shiftHeader}
 use Rattle.msgpack_scalars.specs.Integer.{dueIn, due, naturalOf, unsignedBy, unsigned, adding, integer, shiftInteger}
@@ -29,13 +29,12 @@ module _ (s : Bytes) (at : ℕ) where
   integer-past h = rw (drop-of-length-le s h)
 
   pub array-short : at < length s → 0x90 ≤ getD s at 0 → getD s at 0 < 0xa0 → Is (getD s at 0 - 0x90) (at + 1) ≡ shiftHeader at (header arrayBy (drop at s))
-  unfolding header counted number formOf
+  unfolding header counted number
   array-short h k l =
-      let e : formOf (getD s at 0) ≡ Array 0 (getD s at 0 - 0x90) = agree formOf (λ b. Array 0 (b - 0x90)) 0x90 16 tt (getD s at 0) (omega arith) (omega arith) in
-      rw (drop-cons s at 0 h, e, le-leb 0 (length (drop (suc at) s)) (omega arith)) (ap (λ (n : ℕ). Is n (at + 1)) (omega arith))
+      rw (drop-cons s at 0 h, short-array l k, le-leb 0 (length (drop (suc at) s)) (omega arith)) (ap (λ (n : ℕ). Is n (at + 1)) (omega arith))
 
   pub integer-small : at < length s → getD s at 0 < 0x80 → IsInt (FromZero (getD s at 0)) (at + 1) ≡ shiftInteger at (integer (drop at s))
   unfolding integer adding unsigned unsignedBy due dueIn naturalOf sameKind formOf
   integer-small h k =
-      let e : formOf (getD s at 0) ≡ Scalar Unsigned 0 0 = agree formOf (λ b. Scalar Unsigned 0 0) 0x00 128 tt (getD s at 0) (omega arith) (omega arith) in
+      let e : formOf (getD s at 0) ≡ Scalar Unsigned 0 0 = agree formOf (λ b. Scalar Unsigned 0 0) 0x00 128 tt k (omega arith) in
       rw (drop-cons s at 0 h, e, le-leb 0 (length (drop (suc at) s)) (omega arith))

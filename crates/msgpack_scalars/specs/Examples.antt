@@ -6,7 +6,7 @@ use mathlib.Core.Path.{_≡_, refl}
 use lib.Dec.{leb}
 use Rattle.msgpack_first_bytes.specs.Bytes.{Bytes}
 use Rattle.msgpack_first_bytes.specs.FirstByte.{formOf, sameKind}
-use Rattle.msgpack_values.specs.Number.{number}
+use Rattle.msgpack_first_bytes.specs.Number.{number}
 use Rattle.msgpack_first_bytes.specs.declared.Kind.the-variants.{Unsigned, Signed}
 use Rattle.msgpack_scalars.specs.Start.{scalarOf, startBy}
 use Rattle.msgpack_scalars.specs.Integer.{dueIn, due, naturalOf, unsignedBy, unsigned, twosComplement, signedOf, signedBy, signed, adding, integer}
@@ -31,13 +31,13 @@ starts : Start → Bool
 starts (Here w f) = true
 starts Elsewhere = false
 
-within : ℕ → ℕ → ℕ → Bool
-within a b x = leb a x && leb x b
+between : ℕ → ℕ → ℕ → Bool
+between a b x = leb a x && leb x b
 
 -- '"Unsigned" means forms 00 to 7f and cc to cf. "Integer" adds e0 to ff and d0 to d3'
-firstBytes : (map (λ b. starts (scalarOf Unsigned (formOf b))) (upFrom 0 256) ≡ map (λ b. within 0x00 0x7f b || within 0xcc 0xcf b) (upFrom 0 256))
-    × (map (λ b. starts (scalarOf Signed (formOf b))) (upFrom 0 256) ≡ map (λ b. within 0xe0 0xff b || within 0xd0 0xd3 b) (upFrom 0 256))
-unfolding upFrom starts within formOf sameKind
+firstBytes : (map (λ b. starts (scalarOf Unsigned (formOf b))) (upFrom 0 256) ≡ map (λ b. between 0x00 0x7f b || between 0xcc 0xcf b) (upFrom 0 256))
+    × (map (λ b. starts (scalarOf Signed (formOf b))) (upFrom 0 256) ≡ map (λ b. between 0xe0 0xff b || between 0xd0 0xd3 b) (upFrom 0 256))
+unfolding upFrom starts between formOf sameKind
 firstBytes = (refl, refl)
 
 record Case (A : Type 0) : Type 0 where

@@ -39,7 +39,7 @@ startBy Strings = stringBy
 startBy Arrays = arrayBy
 startBy Maps = mapBy
 
--- the length bytes and the rest are as few as those of a header
-abbrev pub Few : Start → Type 0
-Few (Here w f) = (w ≤ 4) × (f ≤ 31)
-Few Elsewhere = Unit {0}
+-- inner: the length bytes are as few as a header's, and the rest is at most that
+abbrev pub Few : ℕ → Start → Type 0
+Few most (Here w f) = (w ≤ 4) × (f ≤ most)
+Few most Elsewhere = Unit {0}

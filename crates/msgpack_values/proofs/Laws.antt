@@ -1,22 +1,20 @@
 -- What each step of reading says of the definition, one law for each way that the code takes. Assumes nothing.
-use mathlib.Core.Path.{_≡_, refl, sym, subst, ap, _∙_}
-use mathlib.Core.Bool.{Bool, true, false, _&&_}
+use mathlib.Core.Path.{_≡_, refl, sym, ap, _∙_}
 use Prim.Native.Nat.{ℕ, zero, suc, _+_, _-_, _*_, _<_, _≤_}
 use native.Mathlib.Nat.{add-assoc, add-zero}
 use native.Mathlib.Numerals.{add-one}
 use native.Mathlib.Omega.{arith}
-use borrow.Author.Tests.{leb-true, leb-false, le-leb, lt-leb}
-use lib.Dec.{leb}
+use borrow.Author.Tests.{le-leb, lt-leb}
 use lib.ListN.{length, take, drop, getD, length-drop, drop-of-length-le}
 use lib.Seq.{drop-cons, drop-drop}
-use Rattle.msgpack_first_bytes.specs.Bytes.{Bytes, pick}
+use Rattle.msgpack_first_bytes.specs.Bytes.{Bytes}
 use Rattle.msgpack_first_bytes.specs.FirstByte.{formOf}
 use Rattle.msgpack_first_bytes.specs.declared.Kind.{Kind}
 use Rattle.msgpack_first_bytes.specs.declared.Form.{Form}
 use Rattle.msgpack_first_bytes.specs.declared.Form.the-variants.{Unused, Scalar}
-use Rattle.msgpack_values.specs.Number.{number, numberAt}
+use Rattle.msgpack_first_bytes.specs.Number.{number}
+use Rattle.msgpack_first_bytes.proofs.Logic.{impossible}
 use Rattle.msgpack_values.specs.Value.{shift, payload, sized, andThen, items, byForm, one, tooDeep, container, value, inside}
-use Rattle.msgpack_values.specs.declared.Number.the-variants.{Is, Missing}
 use Rattle.msgpack_values.specs.declared.Read.{Read}
 use Rattle.msgpack_values.specs.declared.Read.the-variants.{Whole, Broken}
 
@@ -25,23 +23,6 @@ shift-shift j k (Whole n) = ap Whole (sym (add-assoc j k n))
 shift-shift j k (Broken n) = ap Broken (sym (add-assoc j k n))
 
 -- ---- a number of w bytes, and what comes after it
-
--- what the answer of `number_at` says
-pub number-missing : (w at : ℕ) (s : Bytes) → w ≤ 8 → Missing ≡ numberAt w at s → length s < at + w
-number-missing w at s h e = go (leb (at + w) (length s)) refl (subst (λ (b : Bool). Missing ≡ pick (b && leb (at + w) (length s)) (Is (number (take w (drop at s)))) Missing) (le-leb w 8 h) e)
-  where
-    go : (b : Bool) → leb (at + w) (length s) ≡ b → Missing ≡ pick b (Is (number (take w (drop at s)))) Missing → length s < at + w
-    go true q e = absurd (let z : _≡_ {A = ℕ} 0 1 = cc in omega arith)
-    go false q e = leb-false (at + w) (length s) q
-
-pub number-is : (w at n : ℕ) (s : Bytes) → Is n ≡ numberAt w at s → (at + w ≤ length s) × (n ≡ number (take w (drop at s)))
-number-is w at n s e = go (leb w 8) (leb (at + w) (length s)) refl e
-  where
-    go : (a b : Bool) → leb (at + w) (length s) ≡ b → Is n ≡ pick (a && b) (Is (number (take w (drop at s)))) Missing
-        → (at + w ≤ length s) × (n ≡ number (take w (drop at s)))
-    go true true q e = (leb-true (at + w) (length s) q, cc)
-    go true false q e = absurd (let z : _≡_ {A = ℕ} 0 1 = cc in omega arith)
-    go false b q e = absurd (let z : _≡_ {A = ℕ} 0 1 = cc in omega arith)
 
 pub sized-missing : (s : Bytes) (at w : ℕ) (next : ℕ → Bytes → Read) → at ≤ length s → length s < at + w
     → Broken (length s) ≡ shift at (sized w next (drop at s))
@@ -81,7 +62,7 @@ items-whole v s at n e h = go (v (drop at s)) refl h
   where
     go : (r : Read) → v (drop at s) ≡ r → Whole e ≡ shift at r → shift at (items v (suc n) (drop at s)) ≡ shift e (items v n (drop e s))
     go (Whole k) q h = let f : e ≡ at + k = cc in simp (q, f, drop-drop, shift-shift)
-    go (Broken k) q h = absurd (let z : _≡_ {A = ℕ} 0 1 = cc in omega arith)
+    go (Broken k) q h = impossible cc
 
 pub items-broken : (v : Bytes → Read) (s : Bytes) (at n p : ℕ) → Broken p ≡ shift at (v (drop at s))
     → Broken p ≡ shift at (items v (suc n) (drop at s))
@@ -89,7 +70,7 @@ unfolding items
 items-broken v s at n p h = go (v (drop at s)) refl h
   where
     go : (r : Read) → v (drop at s) ≡ r → Broken p ≡ shift at r → Broken p ≡ shift at (items v (suc n) (drop at s))
-    go (Whole k) q h = absurd (let z : _≡_ {A = ℕ} 0 1 = cc in omega arith)
+    go (Whole k) q h = impossible cc
     go (Broken k) q h = rw q h
 
 -- one alone

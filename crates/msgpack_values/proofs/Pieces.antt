@@ -2,7 +2,6 @@
 use mathlib.Core.Path.{_≡_, refl, sym, ap, _∙_}
 use mathlib.Core.List.{List, _++_, append-assoc}
 use Prim.Native.Nat.{ℕ, zero, suc, _+_}
-use native.Mathlib.Omega.{arith}
 use lib.ListN.{length, take, drop, length-append}
 use lib.Seq.{take-add, take-length, take-append-seam, drop-append-seam}
 use Rattle.msgpack_first_bytes.specs.Bytes.{Bytes}
@@ -30,9 +29,7 @@ pieces-joined v (suc n) s k e = go (pieces-joined v n) (v s) refl e
         (rw q (ap suc (r .0)), rw q (ap (λ (l : Bytes). take j s ++ l) (r .1) ∙ sym t))
 
 single-front : (v : Bytes → Read) → Good v → (f t : Bytes) → Single v f → v (f ++ t) ≡ Whole (length f)
-single-front v g f t e =
-    g f (length f) e .1 (f ++ t)
-    (record { left = omega arith; right = rw length-append (omega arith); front = take-length f ∙ sym (take-append-seam f t) })
+single-front v g f t e = rw take-length at (g f (length f) e .1 t)
 
 -- values put together are read as those values
 pub items-joined : (v : Bytes → Read) → Good v → {fs : List Bytes} → Each v fs → (t : Bytes)

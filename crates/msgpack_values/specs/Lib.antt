@@ -1,6 +1,5 @@
--- One MessagePack value at the front of bytes, numbers of several bytes, and the values of a container as pieces.
-pub mod Number
+-- One MessagePack value at the front of bytes, and the values of a container as pieces.
 pub mod Value
-pub mod Opens
+pub mod Tokens
 pub mod Pieces
 pub mod Examples

@@ -3,9 +3,9 @@ ghost use mathlib.Core.Path.{_≡_};
 ghost use Prim.Native.Nat.{_+_, _-_, _*_, _^_, _<_, _≤_};
 ghost use lib.ListN.{length, take, drop, getD};
 ghost use Rattle.msgpack_first_bytes.specs.FirstByte.{formOf};
-ghost use Rattle.msgpack_values.specs.Number.{number, numberAt, Below};
+ghost use Rattle.msgpack_first_bytes.specs.Number.{number};
 ghost use Rattle.msgpack_values.specs.Value.{shift, payload, sized, items, inside, value};
-ghost use Rattle.msgpack_values.specs.Opens.{scalarLength, shortCount, Width, Ends, Opens};
+ghost use Rattle.msgpack_values.specs.Tokens.{scalarLength, shortCount, Width, Ends, Tells};
 
 // Whole, with the place of the first byte after it; or broken, with the place of the first
 // spoiling byte: an unused first byte, a container one too deep, or the end of the bytes.
@@ -14,47 +14,12 @@ pub enum Read {
     Broken(usize),
 }
 
-pub enum Number {
-    Is(u64),
-    Missing,
-}
-
 // What stands at a place, as far as its first bytes tell: a scalar, with the place after it; a
 // container, with the number of its values and the place of the first; or what is broken.
-enum Opening {
+enum Token {
     Past(usize),
     Holds(usize, usize),
     Fails(usize),
-}
-
-// One byte more at the low end, without a multiplication.
-fn appended(n: u64, b: u8) -> u64
-    requires { ⌜ n < 2 ^ 56 ⌝ }
-    ensures { λ r. ⌜ r ≡ n * 256 + b ⌝ }
-{
-    (n << 8) + b as u64
-}
-
-// The number of the `width` bytes from `at`.
-pub fn number_at(s: &[u8], at: usize, width: usize) -> Number
-    ensures { λ r. ⌜ (r ≡ numberAt width at (now (s .entry))) × Below (2 ^ (8 * width)) r ⌝ }
-{
-    if 8 < width {
-        return Number::Missing;
-    }
-    if s.len() < width {
-        return Number::Missing;
-    }
-    if s.len() - width < at {
-        return Number::Missing;
-    }
-    let mut n: u64 = 0;
-    let mut i: usize = 0;
-    while i < width {
-        n = appended(n, s[at + i]);
-        i += 1;
-    }
-    Number::Is(n)
 }
 
 // A scalar's length by its first byte from 0xc0 to 0xdf; 0 where further bytes tell it.
@@ -130,40 +95,40 @@ fn length_at(s: &[u8], at: usize, width: usize) -> usize
 }
 
 // A scalar whose first byte stands at `at`: its length in `width` bytes, that many, and `more`.
-fn long_scalar(s: &[u8], at: usize, width: usize, more: usize) -> Opening
+fn long_scalar(s: &[u8], at: usize, width: usize, more: usize) -> Token
     requires { ⌜ (at < length (now s)) × (Width width × (more ≤ 1)) ⌝ }
-    ensures { λ r. ⌜ Opens (now (s .entry)) 0 (shift (at + 1) (sized width (λ n t. payload (n + more) t) (drop (at + 1) (now (s .entry))))) r ⌝ }
+    ensures { λ r. ⌜ Tells (now (s .entry)) 0 (shift (at + 1) (sized width (λ n t. payload (n + more) t) (drop (at + 1) (now (s .entry))))) r ⌝ }
 {
     if s.len() - at <= width {
-        return Opening::Fails(s.len());
+        return Token::Fails(s.len());
     }
     let due = length_at(s, at + 1, width) + more;
     let from = at + 1 + width;
     if s.len() - from < due {
-        return Opening::Fails(s.len());
+        return Token::Fails(s.len());
     }
-    Opening::Past(from + due)
+    Token::Past(from + due)
 }
 
 // A container whose first byte stands at `at`: its count in `width` bytes, `per` values for each.
-fn long_container(s: &[u8], at: usize, width: usize, per: usize, depth: usize) -> Opening
+fn long_container(s: &[u8], at: usize, width: usize, per: usize, depth: usize) -> Token
     requires { ⌜ (at < length (now s)) × (Width width × (per ≤ 2)) ⌝ }
-    ensures { λ r. ⌜ Opens (now (s .entry)) depth (shift at (inside depth width 0 per (drop (at + 1) (now (s .entry))))) r ⌝ }
+    ensures { λ r. ⌜ Tells (now (s .entry)) depth (shift at (inside depth width 0 per (drop (at + 1) (now (s .entry))))) r ⌝ }
 {
     if depth == 0 {
-        return Opening::Fails(at);
+        return Token::Fails(at);
     }
     if s.len() - at <= width {
-        return Opening::Fails(s.len());
+        return Token::Fails(s.len());
     }
-    Opening::Holds(per * length_at(s, at + 1, width), at + 1 + width)
+    Token::Holds(per * length_at(s, at + 1, width), at + 1 + width)
 }
 
 // What stands at `at`, where its first byte `b` is no short container's and tells no length. Each
 // arm's numbers are constants, so that the compiler makes code for each.
-fn opened_long(s: &[u8], at: usize, b: u8, depth: usize) -> Opening
+fn long_token(s: &[u8], at: usize, b: u8, depth: usize) -> Token
     requires { ⌜ (at < length (now s)) × ((b ≡ getD (now s) at 0) × ((0xa0 ≤ b) × (scalarLength (formOf b) ≡ 0))) ⌝ }
-    ensures { λ r. ⌜ Opens (now (s .entry)) depth (shift at (value depth (drop at (now (s .entry))))) r ⌝ }
+    ensures { λ r. ⌜ Tells (now (s .entry)) depth (shift at (value depth (drop at (now (s .entry))))) r ⌝ }
 {
     match b {
         0xc4 => long_scalar(s, at, 1, 0),
@@ -179,7 +144,7 @@ fn opened_long(s: &[u8], at: usize, b: u8, depth: usize) -> Opening
         0xdd => long_container(s, at, 4, 1, depth),
         0xde => long_container(s, at, 2, 2, depth),
         0xdf => long_container(s, at, 4, 2, depth),
-        _ => Opening::Fails(at),
+        _ => Token::Fails(at),
     }
 }
 
@@ -194,28 +159,28 @@ fn short_count(b: u8) -> usize
     (b - 0x90) as usize
 }
 
-// What stands at `at`.
-fn opened(s: &[u8], at: usize, depth: usize) -> Opening
-    ensures { λ r. ⌜ Opens (now (s .entry)) depth (shift at (value depth (drop at (now (s .entry))))) r ⌝ }
+// The token at `at`.
+fn token_at(s: &[u8], at: usize, depth: usize) -> Token
+    ensures { λ r. ⌜ Tells (now (s .entry)) depth (shift at (value depth (drop at (now (s .entry))))) r ⌝ }
 {
     if s.len() <= at {
-        return Opening::Fails(at);
+        return Token::Fails(at);
     }
     let b = s[at];
     let k = scalar_length(b);
     if 0 < k {
         if s.len() - at < k {
-            return Opening::Fails(s.len());
+            return Token::Fails(s.len());
         }
-        return Opening::Past(at + k);
+        return Token::Past(at + k);
     }
     if 0xa0 <= b {
-        return opened_long(s, at, b, depth);
+        return long_token(s, at, b, depth);
     }
     if 0 < depth {
-        return Opening::Holds(short_count(b), at + 1);
+        return Token::Holds(short_count(b), at + 1);
     }
-    Opening::Fails(at)
+    Token::Fails(at)
 }
 
 // The n items from `at` on of a container that may have depth `depth`. If `read_values` called itself,
@@ -237,15 +202,15 @@ fn read_values(s: &[u8], at: usize, n: usize, most: usize) -> Read
     let mut left = n;
     let mut depth = most;
     while 0 < left {
-        match opened(s, end, depth) {
-            Opening::Fails(place) => {
+        match token_at(s, end, depth) {
+            Token::Fails(place) => {
                 return Read::Broken(place);
             }
-            Opening::Past(next) => {
+            Token::Past(next) => {
                 end = next;
                 left -= 1;
             }
-            Opening::Holds(count, from) => {
+            Token::Holds(count, from) => {
                 if left == 1 {
                     end = from;
                     left = count;

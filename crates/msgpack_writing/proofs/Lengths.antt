@@ -10,7 +10,7 @@ use lib.ListN.{length, length-append}
 use Rattle.msgpack_first_bytes.specs.Bytes.{Bytes, pick}
 use Rattle.msgpack_first_bytes.proofs.Range.{both, both-left, both-right}
 use Rattle.msgpack_writing.specs.Forms.{bigEndian, tagged, unsignedForm, negativeForm, stringHeader, countHeader, arrayHeader, mapHeader}
-use Rattle.msgpack_writing.proofs.Choice.{by-ltb}
+use Rattle.msgpack_first_bytes.proofs.Logic.{by-ltb}
 
 pub length-bigEndian : (w n : ℕ) → length (bigEndian w n) ≡ w
 unfolding bigEndian
@@ -69,43 +69,51 @@ length-pick false x y = refl
 abbrev pub Long : ℕ → Bytes → Type 0
 Long k p = (1 ≤ length p) × (length p ≤ k)
 
-module _ (l : List (ℕ × ℕ)) (last : ℕ) (t : T (rising ((0, 1) ∷ l) last)) where
-  steps-long : (p : Bytes) (n : ℕ) → length p ≡ steps l last n → Long last p
-  steps-long p n e =
-      let h = first-rises last (0, 1) l t in
-      let k = between last l (h .1) n in
+-- a form whose length goes up so, for the numbers that have one
+record Stepped (last : ℕ) (form : ℕ → Bytes) (P : ℕ → Type 0) : Type 0 where
+  list : List (ℕ × ℕ)
+  rises : T (rising ((0, 1) ∷ list) last)
+  is : (n : ℕ) → P n → length (form n) ≡ steps list last n
+
+module _ {last : ℕ} {form : ℕ → Bytes} {P : ℕ → Type 0} (f : Stepped last form P) where
+  long : (n : ℕ) → P n → Long last (form n)
+  long n p =
+      let h = first-rises last (0, 1) (f .list) (f .rises) in
+      let k = between last (f .list) (h .1) n in
+      let e = f .is n p in
       (omega arith, omega arith)
 
   -- a larger number has no shorter form
-  steps-mono : (p q : Bytes) (n m : ℕ) → length p ≡ steps l last n → length q ≡ steps l last m → n ≤ m → length p ≤ length q
-  steps-mono p q n m e f h = rw (e, f) (steps-rise last l (first-rises last (0, 1) l t .1) n m h)
+  mono : (n m : ℕ) → P n → P m → n ≤ m → length (form n) ≤ length (form m)
+  mono n m p q h = rw (f .is n p, f .is m q) (steps-rise last (f .list) (first-rises last (0, 1) (f .list) (f .rises) .1) n m h)
 
-abbrev unsignedSteps : List (ℕ × ℕ)
-unsignedSteps = (128, 1) ∷ (2 ^ 8, 2) ∷ (2 ^ 16, 3) ∷ (2 ^ 32, 5) ∷ []
+abbrev Any : ℕ → Type 0
+Any n = Unit {0}
 
-unsigned-steps : (n : ℕ) → length (unsignedForm n) ≡ steps unsignedSteps 9 n
+unsigned-steps : Stepped 9 unsignedForm Any
 unfolding unsignedForm bigEndian
-unsigned-steps n = simp length-pick
+unsigned-steps = record { list = (128, 1) ∷ (2 ^ 8, 2) ∷ (2 ^ 16, 3) ∷ (2 ^ 32, 5) ∷ []; rises = tt; is = λ n _. simp length-pick }
 
 pub unsigned-long : (n : ℕ) → Long 9 (unsignedForm n)
-unsigned-long n = steps-long unsignedSteps 9 tt (unsignedForm n) n (unsigned-steps n)
+unsigned-long n = long unsigned-steps n tt
 
 pub unsigned-mono : (n m : ℕ) → n ≤ m → length (unsignedForm n) ≤ length (unsignedForm m)
-unsigned-mono n m = steps-mono unsignedSteps 9 tt (unsignedForm n) (unsignedForm m) n m (unsigned-steps n) (unsigned-steps m)
+unsigned-mono n m = mono unsigned-steps n m tt tt
 
-abbrev negativeSteps : List (ℕ × ℕ)
-negativeSteps = (32, 1) ∷ (2 ^ 7, 2) ∷ (2 ^ 15, 3) ∷ (2 ^ 31, 5) ∷ []
-
-negative-steps : (m : ℕ) → m < 2 ^ 63 → length (negativeForm m) ≡ steps negativeSteps 9 m
+negative-steps : Stepped 9 negativeForm (λ m. m < 2 ^ 63)
 unfolding negativeForm bigEndian
-negative-steps m h = simp (length-pick, lt-ltb m (2 ^ 63) h)
+negative-steps =
+    record {
+      list = (32, 1) ∷ (2 ^ 7, 2) ∷ (2 ^ 15, 3) ∷ (2 ^ 31, 5) ∷ [];
+      rises = tt;
+      is = λ m h. simp (length-pick, lt-ltb m (2 ^ 63) h);
+    }
 
 pub negative-long : (m : ℕ) → m < 2 ^ 63 → Long 9 (negativeForm m)
-negative-long m h = steps-long negativeSteps 9 tt (negativeForm m) m (negative-steps m h)
+negative-long = long negative-steps
 
 pub negative-mono : (n m : ℕ) → n ≤ m → m < 2 ^ 63 → length (negativeForm n) ≤ length (negativeForm m)
-negative-mono n m h k =
-    steps-mono negativeSteps 9 tt (negativeForm n) (negativeForm m) n m (negative-steps n (omega arith)) (negative-steps m k) h
+negative-mono n m h k = mono negative-steps n m (omega arith) k h
 
 -- below -2^63 there is none
 pub negative-none : (m : ℕ) → 2 ^ 63 ≤ m → negativeForm m ≡ []
@@ -113,45 +121,28 @@ unfolding negativeForm
 negative-none m h =
     simp (le-ltb m 32 (omega arith), le-ltb m (2 ^ 7) (omega arith), le-ltb m (2 ^ 15) (omega arith), le-ltb m (2 ^ 31) (omega arith), le-ltb m (2 ^ 63) h)
 
-abbrev stringSteps : List (ℕ × ℕ)
-stringSteps = (32, 1) ∷ (2 ^ 8, 2) ∷ (2 ^ 16, 3) ∷ []
-
-string-steps : (n : ℕ) → length (stringHeader n) ≡ steps stringSteps 5 n
+string-steps : Stepped 5 stringHeader Any
 unfolding stringHeader bigEndian
-string-steps n = simp length-pick
+string-steps = record { list = (32, 1) ∷ (2 ^ 8, 2) ∷ (2 ^ 16, 3) ∷ []; rises = tt; is = λ n _. simp length-pick }
 
 pub string-long : (n : ℕ) → Long 5 (stringHeader n)
-string-long n = steps-long stringSteps 5 tt (stringHeader n) n (string-steps n)
+string-long n = long string-steps n tt
 
 pub string-mono : (n m : ℕ) → n ≤ m → length (stringHeader n) ≤ length (stringHeader m)
-string-mono n m = steps-mono stringSteps 5 tt (stringHeader n) (stringHeader m) n m (string-steps n) (string-steps m)
+string-mono n m = mono string-steps n m tt tt
 
-module _ (short long : ℕ) where
-  abbrev countSteps : List (ℕ × ℕ)
-  countSteps = (16, 1) ∷ (2 ^ 16, 3) ∷ []
-
-  count-steps : (n : ℕ) → length (countHeader short long n) ≡ steps countSteps 5 n
-  unfolding bigEndian
-  count-steps n = simp length-pick
-
-  count-long : (n : ℕ) → Long 5 (countHeader short long n)
-  count-long n = steps-long countSteps 5 tt (countHeader short long n) n (count-steps n)
-
-  count-mono : (n m : ℕ) → n ≤ m → length (countHeader short long n) ≤ length (countHeader short long m)
-  count-mono n m = steps-mono countSteps 5 tt (countHeader short long n) (countHeader short long m) n m (count-steps n) (count-steps m)
+count-steps : (short long : ℕ) → Stepped 5 (countHeader short long) Any
+unfolding bigEndian
+count-steps short long = record { list = (16, 1) ∷ (2 ^ 16, 3) ∷ []; rises = tt; is = λ n _. simp length-pick }
 
 pub array-long : (n : ℕ) → Long 5 (arrayHeader n)
 unfolding arrayHeader
-array-long = count-long 0x90 0xdc
+array-long n = long (count-steps 0x90 0xdc) n tt
 
 pub array-mono : (n m : ℕ) → n ≤ m → length (arrayHeader n) ≤ length (arrayHeader m)
 unfolding arrayHeader
-array-mono = count-mono 0x90 0xdc
-
-pub map-long : (n : ℕ) → Long 5 (mapHeader n)
-unfolding mapHeader
-map-long = count-long 0x80 0xde
+array-mono n m = mono (count-steps 0x90 0xdc) n m tt tt
 
 pub map-mono : (n m : ℕ) → n ≤ m → length (mapHeader n) ≤ length (mapHeader m)
 unfolding mapHeader
-map-mono = count-mono 0x80 0xde
+map-mono n m = mono (count-steps 0x80 0xde) n m tt tt

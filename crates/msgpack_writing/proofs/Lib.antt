@@ -1,5 +1,4 @@
 -- The laws of writing, each once. Assumes nothing.
-pub mod Choice
 pub mod Turns
 pub mod Put
 pub mod Lengths

@@ -10,7 +10,7 @@ use lib.ListN.{length, take, drop, length-append, length-drop, take-append-drop,
 use lib.Seq.{length-take-le, take-at, drop-at, drop-drop, take-all}
 use Rattle.msgpack_first_bytes.specs.Bytes.{Bytes}
 use Rattle.msgpack_writing.specs.Put.{put, next}
-use Rattle.msgpack_writing.proofs.Choice.{by-leb, either}
+use Rattle.msgpack_first_bytes.proofs.Logic.{by-leb, either}
 
 -- cur is old with p from `at` on, and a is the place after p
 pub record Wrote (old : Bytes) (at : ℕ) (p cur : Bytes) (a : ℕ) : Type 0 where
@@ -70,21 +70,12 @@ module _ {old p cur : Bytes} {at a : ℕ} (w : Wrote old at p cur a) where
   upto : length (take at old ++ p) ≡ a
   upto = simp (length-append, front old at p (w .room)) (sym (w .end))
 
-  -- what was written stands there, and all before it and after it is as it was
+  -- what stands up to its end, and after it
   pub through : take a cur ≡ take at old ++ p
   through = ap (take a) apart ∙ take-at (take at old ++ p) (drop a old) a upto
 
   pub after : drop a cur ≡ drop a old
   after = ap (drop a) apart ∙ drop-at (take at old ++ p) (drop a old) a upto
-
-  pub before : take at cur ≡ take at old
-  before = ap (take at) (w .is) ∙ take-at (take at old) _ at (front old at p (w .room))
-
-  pub got : take (length p) (drop at cur) ≡ p
-  got =
-      ap (λ (l : Bytes). take (length p) (drop at l)) (w .is)
-      ∙ ap (take (length p)) (drop-at (take at old) _ at (front old at p (w .room)))
-      ∙ take-at p _ (length p) refl
 
 -- two writes in a row are one
 pub join : {old cur new p q : Bytes} {at a b : ℕ} → Wrote old at p cur a → Wrote cur a q new b → Wrote old at (p ++ q) new b
@@ -94,23 +85,9 @@ join {old} {cur} {new} {p} {q} {at} {a} {b} v w =
     let f : drop (a + length q) cur ≡ drop (a + length q) old = sym (drop-drop (length q) a cur) ∙ ap (drop (length q)) (after v) ∙ drop-drop (length q) a old in
     laid old at (p ++ q) (omega arith) (omega arith) (w .is ∙ rw (e, through v, f) (simp append-assoc))
 
-module _ (at : ℕ) (p old : Bytes) where
-  -- a rule of every write, with room and without
-  by-room : (P : Bytes → ℕ → Type 0) → (Wrote old at p (put at p old) (next at p old) → P (put at p old) (next at p old)) → P old at
-      → P (put at p old) (next at p old)
-  by-room P f g =
-      ⊎-elim (λ h. f (wrote old at p (refl, refl) h))
-      (λ h. let r = refused old at p h in rw (← (r .1), ← (r .0)) g)
-      (either (at + length p) (length old))
-
-  pub length-put : length (put at p old) ≡ length old
-  length-put = by-room (λ cur a. length cur ≡ length old) (λ w. w .long) refl
-
-  pub put-before : take at (put at p old) ≡ take at old
-  put-before = by-room (λ cur a. take at cur ≡ take at old) (λ w. before w) refl
-
-  pub put-after : drop (next at p old) (put at p old) ≡ drop (next at p old) old
-  put-after = by-room (λ cur a. drop a cur ≡ drop a old) (λ w. after w) refl
+pub length-put : (at : ℕ) (p old : Bytes) → length (put at p old) ≡ length old
+length-put at p old =
+    ⊎-elim (λ h. wrote old at p (refl, refl) h .long) (λ h. ap length (sym (refused old at p h .1))) (either (at + length p) (length old))
 
 -- a run of writes, each after the one before: room for all is room for each
 pub step : (old : Bytes) (at : ℕ) (p : Bytes) {q cur new : Bytes} {a b : ℕ} → (a ≡ next at p old) × (cur ≡ put at p old)

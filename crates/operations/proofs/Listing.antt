@@ -13,7 +13,7 @@ use lib.Seq.{drop-cons}
 use Rattle.msgpack_first_bytes.specs.Bytes.{Bytes, pick}
 use Rattle.msgpack_scalars.specs.Start.{arrayBy}
 use Rattle.msgpack_scalars.specs.Header.{header, shiftHeader}
-use Rattle.msgpack_writing.proofs.Choice.{either}
+use Rattle.msgpack_first_bytes.proofs.Logic.{either}
 use Rattle.msgpack_scalars.specs.declared.Int.{Int}
 use Rattle.tuples.specs.Limits.{maxOperations, maxList}
 use Rattle.tuples.specs.Decoding.{Got, fails, gets, count}

@@ -26,7 +26,7 @@ use Rattle.msgpack_scalars.specs.declared.Integer.{Integer}
 use Rattle.msgpack_scalars.specs.declared.Integer.the-variants.{Is as IsInt, Cut as CutInt, Other as OtherInt}
 use Rattle.msgpack_scalars.specs.declared.Header.{Header}
 use Rattle.msgpack_scalars.specs.declared.Header.the-variants.{Is as IsHeader, Other as OtherHeader}
-use Rattle.msgpack_writing.proofs.Choice.{by-leb}
+use Rattle.msgpack_first_bytes.proofs.Logic.{by-leb}
 use Rattle.tuples.specs.Decoding.{fails, gets, valueFrom, anyValue, integerFrom, anyInteger, stringFrom, string, countFrom, count, mark}
 use Rattle.parts.specs.Part.{SignedAt, NaturalAt, SpanAt}
 use Rattle.parts.specs.declared.Signed.{Signed as SignedPart}

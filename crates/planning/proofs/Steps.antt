@@ -13,7 +13,7 @@ use lib.ListN.{length, getD}
 use Rattle.msgpack_first_bytes.specs.Bytes.{Bytes, pick}
 use Rattle.msgpack_scalars.specs.declared.Int.{Int}
 use Rattle.msgpack_scalars.specs.declared.Int.the-variants.{FromZero, BelowZero}
-use Rattle.msgpack_writing.proofs.Choice.{by-leb, by-ltb, either}
+use Rattle.msgpack_first_bytes.proofs.Logic.{impossible as never, by-leb, by-ltb, either}
 use Rattle.msgpack_values.specs.Pieces.{joined}
 use Rattle.tuples.specs.Limits.{maxFields, maxTuple}
 use Rattle.tuples.specs.Tuple.{Fields}
@@ -42,9 +42,6 @@ use Rattle.altering.proofs.Edits.{altered-is, altered-refused}
 use Rattle.planning.specs.Plan.{wholly, fieldBytes, alone, orElse, plannedAt, workAt, planned, workAfter, performed, Means}
 use Rattle.planning.specs.declared.Planned.{Planned}
 use Rattle.planning.specs.declared.Planned.the-variants.{Refuse, Alter, Bring, Cut}
-
-never : {A : Type 0} → _≡_ {A = ℕ} 0 1 → A
-never e = absurd (omega arith)
 
 -- ---- what a plan means for an edit of the fields t
 

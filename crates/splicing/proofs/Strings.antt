@@ -15,7 +15,7 @@ use Rattle.msgpack_first_bytes.specs.Bytes.{Bytes}
 use Rattle.msgpack_writing.specs.Forms.{stringHeader, stringForm}
 use Rattle.msgpack_writing.specs.Put.{next}
 use Rattle.msgpack_writing.specs.Put as Written
-use Rattle.msgpack_writing.proofs.Choice.{either}
+use Rattle.msgpack_first_bytes.proofs.Logic.{either}
 use Rattle.msgpack_writing.proofs.Put.{Wrote, wrote, step}
 use Rattle.tuples.specs.Limits.{maxTuple}
 use Rattle.tuples.specs.Decoding.{Got, string}

@@ -40,7 +40,7 @@ fn string_fits(front: &[u8], middle: &[u8], back: &[u8], room: usize) -> bool
     if MAX_TUPLE < length {
         return false;
     }
-    let all = msgpack_headers::string_header_length(length as u32) + length;
+    let all = msgpack_writing::string_header_length(length as u32) + length;
     (all <= MAX_TUPLE) & (all <= room)
 }
 
@@ -52,7 +52,7 @@ fn put_string(front: &[u8], middle: &[u8], back: &[u8], work: &mut [u8]) -> Alte
         return Altered::Refused(Refusal::TooLarge);
     }
     let length = front.len() + (middle.len() + back.len());
-    let at_front = msgpack_headers::write_string_header(work, 0, length as u32);
+    let at_front = msgpack_writing::write_string_header(work, 0, length as u32);
     let at_middle = msgpack_writing::write_bytes(work, at_front, front);
     let at_back = msgpack_writing::write_bytes(work, at_middle, middle);
     let end = msgpack_writing::write_bytes(work, at_back, back);

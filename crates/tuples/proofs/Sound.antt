@@ -12,14 +12,14 @@ use lib.IntN.{ℤ, pos, negsuc, _+ℤ_, _-ℤ_}
 use lib.ListN.{length, getD, length-append}
 use Rattle.msgpack_first_bytes.specs.Bytes.{Bytes, pick}
 use Rattle.msgpack_first_bytes.specs.FirstByte.{formOf}
-use Rattle.msgpack_values.specs.Number.{number}
+use Rattle.msgpack_first_bytes.specs.Number.{number}
 use Rattle.msgpack_values.specs.Value.{value, one, byForm, sized, payload}
 use Rattle.msgpack_values.specs.Pieces.{Single}
 use Rattle.msgpack_scalars.specs.declared.Int.{Int}
 use Rattle.msgpack_scalars.specs.declared.Int.the-variants.{FromZero, BelowZero}
 use Rattle.msgpack_writing.specs.Forms.{bigEndian, unsignedForm, stringHeader, stringForm}
 use Rattle.msgpack_read_back.proofs.Back.{integer-whole, string-whole}
-use Rattle.msgpack_writing.proofs.Choice.{by-leb, by-ltb, either}
+use Rattle.msgpack_first_bytes.proofs.Logic.{by-leb, by-ltb, either}
 use Rattle.tuples.specs.Limits.{maxTuple, fieldDepth}
 use Rattle.tuples.specs.Tuple.{Fields}
 use Rattle.tuples.specs.Decoding.{Got, fails, gets, Decoder, anyInteger, atLeast, string}

@@ -14,7 +14,7 @@ use lib.Seq.{take-length, drop-append-seam}
 use Rattle.msgpack_first_bytes.specs.Bytes.{Bytes, pick}
 use Rattle.msgpack_first_bytes.specs.FirstByte.{formOf}
 use Rattle.msgpack_first_bytes.specs.declared.Form.{Form}
-use Rattle.msgpack_values.specs.Number.{number}
+use Rattle.msgpack_first_bytes.specs.Number.{number}
 use Rattle.msgpack_values.specs.Value.{value, items}
 use Rattle.msgpack_values.specs.Pieces.{pieces, joined, Each}
 use Rattle.msgpack_values.specs.declared.Read.{Read}
@@ -29,7 +29,7 @@ use Rattle.msgpack_scalars.specs.declared.Header.{Header}
 use Rattle.msgpack_scalars.specs.declared.Header.the-variants.{Is, Other}
 use Rattle.msgpack_writing.specs.Forms.{bigEndian, arrayHeader}
 use Rattle.msgpack_read_back.proofs.Back.{array-header-back}
-use Rattle.msgpack_writing.proofs.Choice.{by-leb}
+use Rattle.msgpack_first_bytes.proofs.Logic.{by-leb}
 use Rattle.msgpack_writing.proofs.Lengths.{array-mono}
 use Rattle.tuples.specs.Limits.{maxFields, maxTuple, fieldDepth}
 use Rattle.tuples.specs.Tuple.{Fields, plain, filling, fieldsFilling, fieldsBy, fieldsOf}

@@ -12,7 +12,7 @@ use Rattle.msgpack_first_bytes.specs.Bytes.{Bytes}
 use Rattle.msgpack_values.specs.Pieces.{joined}
 use Rattle.msgpack_writing.specs.Forms.{arrayHeader, stringHeader, unsignedForm}
 use Rattle.msgpack_writing.specs.Put.{put, next}
-use Rattle.msgpack_writing.proofs.Choice.{either}
+use Rattle.msgpack_first_bytes.proofs.Logic.{either}
 use Rattle.msgpack_writing.proofs.Put.{Wrote, wrote, written, length-put, step}
 use Rattle.tuples.specs.Edit.{operationBytes}
 use Rattle.undo_lists.specs.Laying.{counted, laid, countedAll, laidAll, Piled}

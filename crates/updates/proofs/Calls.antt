@@ -12,7 +12,7 @@ use lib.ListN.{length, take, drop}
 use Rattle.msgpack_first_bytes.specs.Bytes.{Bytes, pick}
 use Rattle.msgpack_scalars.specs.Start.{arrayBy}
 use Rattle.msgpack_scalars.specs.Header.{header}
-use Rattle.msgpack_writing.proofs.Choice.{either}
+use Rattle.msgpack_first_bytes.proofs.Logic.{impossible as never, either}
 use Rattle.tuples.specs.Limits.{maxFields, maxTuple, maxOperations}
 use Rattle.msgpack_writing.specs.Forms.{arrayHeader}
 use Rattle.tuples.specs.Tuple.{Fields, plain, fieldsBy, fieldsOf}
@@ -36,9 +36,6 @@ use Rattle.updates.specs.Running.{planIn, after, runFrom, undoFrom, rest
 use Rattle.updates.specs.declared.run.Ran.{Ran}
 use Rattle.updates.specs.declared.run.Ran.the-variants.{NoRoom, Refused, Done}
 use Rattle.updates.specs.Carrying.{Refuses, Roomy, Carries}
-
-never : {A : Type 0} → _≡_ {A = ℕ} 0 1 → A
-never e = absurd (omega arith)
 
 -- ---- a run from the bytes is the run of the operations
 

@@ -12,7 +12,7 @@ use lib.Seq.{take-all}
 use Rattle.msgpack_first_bytes.specs.Bytes.{Bytes}
 use Rattle.msgpack_values.specs.Pieces.{joined}
 use Rattle.msgpack_writing.specs.Forms.{arrayHeader}
-use Rattle.msgpack_writing.proofs.Choice.{either}
+use Rattle.msgpack_first_bytes.proofs.Logic.{either}
 use Rattle.tuples.specs.Limits.{maxOperations, maxList}
 use Rattle.tuples.specs.Tuple.{plain}
 use Rattle.tuples.specs.Call.{Outcome, refusal, bytes, limitedList, undo, Result, delivered}

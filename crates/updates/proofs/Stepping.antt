@@ -7,6 +7,7 @@ use native.Mathlib.Omega.{arith}
 use lib.ListN.{length, take, drop, length-append, length-drop}
 use lib.Seq.{length-take-le}
 use Rattle.msgpack_first_bytes.specs.Bytes.{Bytes}
+use Rattle.msgpack_first_bytes.proofs.Logic.{impossible as never}
 use Rattle.msgpack_scalars.specs.declared.Int.{Int}
 use Rattle.tuples.specs.Limits.{maxFields}
 use Rattle.tuples.specs.Tuple.{Fields}
@@ -40,9 +41,6 @@ use Rattle.undo_lists.specs.Inverse.{inverseIn}
 use Rattle.undo_lists.proofs.Inverses.{inverse-is}
 use Rattle.updates.specs.Running.{planIn, after, Follows, Prepares, weightOf, Onward}
 use Rattle.updates.specs.declared.run.Stage.{Stage}
-
-never : {A : Type 0} → _≡_ {A = ℕ} 0 1 → A
-never e = absurd (omega arith)
 
 -- ---- an operation decoded
 

@@ -103,7 +103,7 @@ fn finish(undo: &[u8], laid: usize, bytes: usize, out: &mut [u8]) -> Answer
     if MAX_OPERATIONS < laid {
         return answers::refused(Refusal::LongUndo, 0);
     }
-    if MAX_LIST - msgpack_headers::array_header_length(laid as u32) < bytes {
+    if MAX_LIST - msgpack_writing::array_header_length(laid as u32) < bytes {
         return answers::refused(Refusal::LongUndo, 0);
     }
     let start = undo.len() - bytes;

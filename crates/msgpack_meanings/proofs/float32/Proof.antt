@@ -7,9 +7,7 @@ use borrow.Author.Needs.{needs}
 use Rattle.msgpack_meanings.proofs.float32.Statement.{statement}
 use Rattle.msgpack_meanings.proofs.float32.Tie as tie
 
-returns-2 : tie.Need-returns-2
-unfolding div ofBits
-returns-2 c = ap (λ (x : Float). Float32 x (c .before .args .bits)) (sym (nan-is binary32 (c .before .args .bits) (c .if1 .left)))
-
 pub float32-spec : {M : Type 1} → statement M
-float32-spec = tie.close (tie.spec (λ c. allowed binary32 (c .before .args .bits) (c .if1 .taken)) (λ c. search needs) returns-2)
+unfolding div ofBits
+float32-spec = tie.close (tie.spec (λ c. allowed binary32 (c .before .args .bits) (c .if1 .taken)) (λ c. search needs)
+    (λ c. ap (λ (x : Float). Float32 x (c .before .args .bits)) (sym (nan-is binary32 (c .before .args .bits) (c .if1 .left)))))

@@ -7,9 +7,7 @@ use borrow.Author.Needs.{needs}
 use Rattle.msgpack_meanings.proofs.float64.Statement.{statement}
 use Rattle.msgpack_meanings.proofs.float64.Tie as tie
 
-returns-2 : tie.Need-returns-2
-unfolding div ofBits
-returns-2 c = ap (λ (x : Float). Float64 x (c .before .args .bits)) (sym (nan-is binary64 (c .before .args .bits) (c .if1 .left)))
-
 pub float64-spec : {M : Type 1} → statement M
-float64-spec = tie.close (tie.spec (λ c. allowed binary64 (c .before .args .bits) (c .if1 .taken)) (λ c. search needs) returns-2)
+unfolding div ofBits
+float64-spec = tie.close (tie.spec (λ c. allowed binary64 (c .before .args .bits) (c .if1 .taken)) (λ c. search needs)
+    (λ c. ap (λ (x : Float). Float64 x (c .before .args .bits)) (sym (nan-is binary64 (c .before .args .bits) (c .if1 .left)))))

@@ -4,11 +4,9 @@ use borrow.Author.Needs.{needs}
 use Rattle.msgpack_meanings.proofs.float64_meaning.Statement.{statement}
 use Rattle.msgpack_meanings.proofs.float64_meaning.Tie as tie
 
-returns : tie.Need-returns
-unfolding ofFloat64
-returns c = rw (← (c .before .before .before .before .number-at .ensures .0), c .before .before .n .given .1) (c .float64 .ensures)
-
 pub float64-meaning-spec : {M : Type 1} → statement M
+unfolding ofFloat64
 float64-meaning-spec =
-    tie.close (tie.spec (λ c κs. search needs) (λ c. search needs) (λ c κs. search needs) (λ c. search needs) returns
-    (λ c. unfold ofFloat64 in rw (← (c .before .before .number-at .ensures .0), c .enum-told .given .1)))
+    tie.close (tie.spec (λ c κs. search needs) (λ c. search needs) (λ c κs. search needs) (λ c. search needs)
+    (λ c. rw (← (c .before .before .before .before .number-at .ensures .0), c .before .before .n .given .1) (c .float64 .ensures))
+    (λ c. rw (← (c .before .before .number-at .ensures .0), c .enum-told .given .1)))

@@ -18,8 +18,8 @@ at-front : (c : tie.After-integer-at) → c .integer-at .result ≡ integer (c .
 at-front c = c .integer-at .ensures ∙ unshifted (integer (c .before .before .args .s .now))
 
 pub integer-meaning-spec : {M : Type 1} → statement M
+unfolding ofInteger
 integer-meaning-spec =
     tie.close (tie.spec (λ c κs. search needs) (λ c. search needs) (λ c. search needs) (λ c. search needs)
-    (λ c. unfold ofInteger in rw (← (at-front (c .before .before .before)), c .before .z .given .1))
-    (λ c. unfold ofInteger in rw (← (at-front (c .before .before)), c .enum-told .given .1))
-    (λ c. unfold ofInteger in rw (← (at-front (c .before .before)), c .enum-told2 .given .1)))
+    (λ c. rw (← (at-front (c .before .before .before)), c .before .z .given .1))
+    (λ c. rw (← (at-front (c .before .before)), c .enum-told .given .1)) (λ c. rw (← (at-front (c .before .before)), c .enum-told2 .given .1)))

@@ -16,34 +16,17 @@ ext c =
     let a = c .before .before .before .args in
     subst (λ (k : Kind). 1 + a .width + typeBytes k ≤ a .end) (c .enum-told9 .given .1) (c .before .before .before .pre .0)
 
-shared-slice-read-t13 : tie.Need-shared-slice-read-t13
-shared-slice-read-t13 c =
-    let k = ext (c .before) in
-    omega arith
-
-sub-t16 : tie.Need-sub-t16
-sub-t16 c =
-    let k = ext (c .before) in
-    omega arith
-
-returns-9 : tie.Need-returns-9
-unfolding scalarMeaning
-returns-9 c =
-    let a = c .before .before .before .before .args in
-    let e : 1 + a .width + 1 ≡ 2 + a .width = omega arith in
-    rw (c .before .enum-told9 .given .1, e)
-
 pub scalar-meaning-spec : {M : Type 1} → statement M
+unfolding scalarMeaning
 scalar-meaning-spec =
     tie.close (tie.spec (λ c. search needs) (λ c. search needs) (λ c. search needs) (λ c. search needs) (λ c. search needs)
     (λ c κs. search needs) (λ c. search needs) (λ c κs. search needs) (λ c. search needs) (λ c κs. search needs)
-    (λ c. search needs) (λ c κs. search needs) (λ c. search needs) (λ c. search needs) (λ c. search needs)
-    (λ c. search needs) (λ c. search needs) shared-slice-read-t13 (λ c. search needs) (λ c. search needs) sub-t16
-    (λ c. unfold scalarMeaning in rw (c .enum-told .given .1))
-    (λ c. unfold scalarMeaning in rw (c .before .enum-told2 .given .1))
-    (λ c. unfold scalarMeaning in rw (c .before .enum-told3 .given .1) (c .integer-meaning .ensures))
-    (λ c. unfold scalarMeaning in rw (c .before .enum-told4 .given .1) (c .integer-meaning2 .ensures))
-    (λ c. unfold scalarMeaning in rw (c .before .enum-told5 .given .1) (c .float32-meaning .ensures))
-    (λ c. unfold scalarMeaning in rw (c .before .enum-told6 .given .1) (c .float64-meaning .ensures))
-    (λ c. unfold scalarMeaning in rw (c .enum-told7 .given .1)) (λ c. unfold scalarMeaning in rw (c .enum-told8 .given .1))
-    returns-9)
+    (λ c. search needs) (λ c κs. search needs) (λ c. search needs) (λ c. search needs) (λ c. search needs) (λ c. search needs)
+    (λ c. search needs) (λ c. let k = ext (c .before) in omega arith) (λ c. search needs) (λ c. search needs)
+    (λ c. let k = ext (c .before) in omega arith) (λ c. rw (c .enum-told .given .1)) (λ c. rw (c .before .enum-told2 .given .1))
+    (λ c. rw (c .before .enum-told3 .given .1) (c .integer-meaning .ensures))
+    (λ c. rw (c .before .enum-told4 .given .1) (c .integer-meaning2 .ensures))
+    (λ c. rw (c .before .enum-told5 .given .1) (c .float32-meaning .ensures))
+    (λ c. rw (c .before .enum-told6 .given .1) (c .float64-meaning .ensures)) (λ c. rw (c .enum-told7 .given .1))
+    (λ c. rw (c .enum-told8 .given .1))
+    (λ c. let w = c .before .before .before .before .args .width in let e : 1 + w + 1 ≡ 2 + w = omega arith in rw (c .before .enum-told9 .given .1, e)))

@@ -9,10 +9,6 @@ use borrow.Author.Needs.{needs}
 use Rattle.msgpack_scalars.proofs.sign_bit.Statement.{statement}
 use Rattle.msgpack_scalars.proofs.sign_bit.Tie as tie
 
-returns : tie.Need-returns
-returns c =
-    let k = 8 * c .args .width - 1 in
-    shl-exact 1 k 64 (lit< tt) (omega arith) ∙ one-mul (2 ^ k)
-
 pub sign-bit-spec : {M : Type 1} → statement M
-sign-bit-spec = tie.close (tie.spec (λ c. search needs) (λ c. search needs) (λ c. search needs) returns)
+sign-bit-spec = tie.close (tie.spec (λ c. search needs) (λ c. search needs) (λ c. search needs)
+    (λ c. let k = 8 * c .args .width - 1 in shl-exact 1 k 64 (lit< tt) (omega arith) ∙ one-mul (2 ^ k)))

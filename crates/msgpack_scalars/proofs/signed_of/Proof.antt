@@ -1,12 +1,11 @@
 -- Two's complement, by the sign bit. Assumes nothing.
 use native.Mathlib.Omega.{arith}
 use native.Mathlib.Nat.{add-zero}
-use Prim.Native.Nat.{_+_, _-_, _*_, _^_, _<_}
+use Prim.Native.Nat.{_-_, _*_, _^_, _<_, _+_}
 use mathlib.Core.Path.{_≡_, sym, _∙_}
 use lib.Pow.{pow-pos}
 use lib.ListN.{drop}
 use lib.Seq.{getD-drop}
-use Rattle.msgpack_values.proofs.Laws.{number-missing}
 use Rattle.msgpack_scalars.specs.Integer.{naturalOf, signedOf}
 use Rattle.msgpack_scalars.proofs.Laws as Laws
 use borrow.Author.Needs.{needs}
@@ -27,28 +26,6 @@ known c =
     let p = pow-pos (8 * a .more - 1) in
     (Laws.natural-more (a .s .now) (a .at) (a .more) (n .0 .0) (omega arith) (sym (n .1) ∙ q .0), (e, (omega arith, omega arith)))
 
-returns-2 : tie.Need-returns-2
-returns-2 c =
-    let a = c .before .before .before .before .before .args in
-    let m = number-missing (a .more) (a .at + 1) (a .s .now) (omega arith) (sym (c .enum-told .given .1) ∙ c .before .before .number-at .ensures .0) in
-    absurd (omega arith)
-
-returns-3 : tie.Need-returns-3
-returns-3 c =
-    let a = c .before .before .before .before .before .before .before .before .args in
-    let k = known (c .before) in
-    Laws.signed-low (drop (a .at) (a .s .now)) (a .more) _ _ (omega arith) (k .0) (k .1 .0) (c .if2 .taken)
-
-sub-t13 : tie.Need-sub-t13
-sub-t13 c =
-    let k = known (c .before) in
-    omega arith
-
-sub-t15 : tie.Need-sub-t15
-sub-t15 c =
-    let k = known (c .before) in
-    omega arith
-
 returns-4 : tie.Need-returns-4
 returns-4 c =
     let a = c .before .before .before .before .before .before .before .before .args in
@@ -59,5 +36,9 @@ pub signed-of-spec : {M : Type 1} → statement M
 signed-of-spec =
     tie.close (tie.spec (λ c. search needs) (λ c. omega (arith, c .shared-slice-known2 .given (c .before .before .before .args .at)))
     (λ c. search needs) (λ c. unfold signedOf in rw (c .before .if1 .taken) (rw (getD-drop, add-zero))) (λ c. search needs)
-    (λ c κs. search needs) (λ c. search needs) (λ c. search needs) returns-2 (λ c κs. search needs) returns-3 sub-t13
-    sub-t15 returns-4)
+    (λ c κs. search needs) (λ c. search needs) (λ c. search needs)
+    (λ c. let p = c .before .before in let a = p .before .before .before .args in
+    absurd (Laws.natural-there (a .s .now) (a .at) (a .more) (omega arith) (omega arith) (sym (c .enum-told .given .1) ∙ p .number-at .ensures .0)))
+    (λ c κs. search needs) (λ c. let k = known (c .before) in
+    let a = c .before .before .before .before .before .before .before .before .args in Laws.signed-low _ (a .more) _ _ (omega arith) (k .0) (k .1 .0) (c .if2 .taken))
+    (λ c. let k = known (c .before) in omega arith) (λ c. let k = known (c .before) in omega arith) returns-4)

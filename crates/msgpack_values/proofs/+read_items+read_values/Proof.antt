@@ -11,9 +11,9 @@ use borrow.Fn.Kinds.{In}
 use borrow.Fn.PlainCycle.{Measures, is, falls, and}
 use Rattle.msgpack_first_bytes.specs.Bytes.{Bytes}
 use Rattle.msgpack_values.specs.Value.{shift, items, value}
-use Rattle.msgpack_values.specs.declared.Read.the-variants.{Whole}
+use Rattle.msgpack_values.specs.declared.Read.the-variants.{Whole, Broken}
 use Rattle.msgpack_values.proofs.Laws as Laws
-use Rattle.msgpack_values.proofs.opened.Reads as opened
+use Rattle.msgpack_values.proofs.token_at.Reads as token-at
 use Rattle.msgpack_values.proofs.read_items.Reads as read-items
 use Rattle.msgpack_values.proofs.read_items.Kinds as read-items-kinds
 use Rattle.msgpack_values.proofs.+read_items+read_values.Lts-read_items as read-items-lts
@@ -39,16 +39,7 @@ abbrev items-calls : ℕ → read-items-lts.Claims
 items-calls t = (and 1 kinds.ps (falls 1 kinds.ps _<_ μ t) read-values.Pre, read-values.Post)
 
 abbrev calls : ℕ → lts.Claims
-calls t = (opened.Asked, opened.Learnt, and 1 read-items-kinds.ps (falls 1 read-items-kinds.ps _<_ μ-items t) read-items.Pre, read-items.Post)
-
-sub-read-values : (t : ℕ) → read-items-lts.Need-sub-read-values (items-calls t) (given-items t) read-items.Post
-sub-read-values t c = search needs
-
-read-values-requires : (t : ℕ) → read-items-lts.Need-read-values-requires (items-calls t) (given-items t) read-items.Post
-read-values-requires t c κs = (omega arith, omega arith)
-
-items-returns : (t : ℕ) → read-items-lts.Need-returns (items-calls t) (given-items t) read-items.Post
-items-returns t c = c .read-values .ensures
+calls t = (token-at.Asked, token-at.Learnt, and 1 read-items-kinds.ps (falls 1 read-items-kinds.ps _<_ μ-items t) read-items.Pre, read-items.Post)
 
 abbrev Inv-loop : lts.InvT-loop
 Inv-loop s at n most end₀ left₀ depth₀ end left depth =
@@ -57,51 +48,19 @@ Inv-loop s at n most end₀ left₀ depth₀ end left depth =
 abbrev μ-loop : lts.MeasureT-loop
 μ-loop s at n most end₀ left₀ depth₀ end left depth = depth * 2 ^ 34 + left
 
-loop-holds : (t : ℕ) → lts.Need-loop-holds (calls t) (given t) read-values.Post Inv-loop μ-loop
-loop-holds t c = (refl, (omega arith, omega arith))
+-- at least one is left to read: it is broken, or it ends at e and the others follow
+module _ (t : ℕ) (c : lts.In-loop (calls t) (given t) read-values.Post Inv-loop μ-loop) where
+  more : (let l = c .before .loop in let a = c .before .before .before .args in
+      shift (a .at) (items (value (a .most)) (a .n) (drop (a .at) (a .s .now))) ≡ shift (l .end) (items (value (l .depth)) (suc (l .left - 1)) (drop (l .end) (a .s .now))))
+  more = let l = c .before .loop in let e : l .left ≡ suc (l .left - 1) = omega arith in rw e at (l .inv .0)
 
-opened-requires : (t : ℕ) → lts.Need-opened-requires (calls t) (given t) read-values.Post Inv-loop μ-loop
-opened-requires t c κs = search needs
+  broken : (p : ℕ) → (let l = c .before .loop in let a = c .before .before .before .args in Broken p ≡ shift (l .end) (value (l .depth) (drop (l .end) (a .s .now)))
+      → Broken p ≡ shift (a .at) (items (value (a .most)) (a .n) (drop (a .at) (a .s .now))))
+  broken p h = let l = c .before .loop in Laws.items-broken (value (l .depth)) (c .before .before .before .args .s .now) (l .end) (l .left - 1) p h ∙ sym more
 
--- at least one is left to read
-more : (t : ℕ) (c : lts.In-loop (calls t) (given t) read-values.Post Inv-loop μ-loop) →
-    (let l = c .before .loop in let a = c .before .before .before .args in
-    shift (a .at) (items (value (a .most)) (a .n) (drop (a .at) (a .s .now))) ≡ shift (l .end) (items (value (l .depth)) (suc (l .left - 1)) (drop (l .end) (a .s .now))))
-more t c =
-    let l = c .before .loop in
-    let e : l .left ≡ suc (l .left - 1) = omega arith in
-    rw e at (l .inv .0)
-
-enum-known-place : (t : ℕ) → lts.Need-enum-known-place (calls t) (given t) read-values.Post Inv-loop μ-loop
-enum-known-place t c = search needs
-
-returns : (t : ℕ) → lts.Need-returns (calls t) (given t) read-values.Post Inv-loop μ-loop
-returns t c =
-    let l = c .before .before .before .before .before .loop in
-    let a = c .before .before .before .before .before .before .before .args in
-    Laws.items-broken (value (l .depth)) (a .s .now) (l .end) (l .left - 1) (c .before .place .given .0 .0) (rw (c .before .place .given .1) at (c .before .before .before .opened .ensures))
-    ∙ sym (more t (c .before .before .before .before))
-
-enum-known-next : (t : ℕ) → lts.Need-enum-known-next (calls t) (given t) read-values.Post Inv-loop μ-loop
-enum-known-next t c = search needs
-
-sub-left : (t : ℕ) → lts.Need-sub-left (calls t) (given t) read-values.Post Inv-loop μ-loop
-sub-left t c = omega arith
-
-loop-less : (t : ℕ) → lts.Need-loop-less (calls t) (given t) read-values.Post Inv-loop μ-loop
-loop-less t c = omega arith
-
-loop-again : (t : ℕ) → lts.Need-loop-again (calls t) (given t) read-values.Post Inv-loop μ-loop
-loop-again t c =
-    let l = c .before .before .before .before .before .loop in
-    let a = c .before .before .before .before .before .before .before .args in (
-      more t (c .before .before .before .before)
-          ∙ Laws.items-whole (value (l .depth)) (a .s .now) (l .end) (l .left - 1) (c .before .next .given .0 .0) (rw (c .before .next .given .1) at (c .before .before .before .opened .ensures)),
-      (omega arith, omega arith),
-    )
-
-enum-known-count : (t : ℕ) → lts.Need-enum-known-count (calls t) (given t) read-values.Post Inv-loop μ-loop
-enum-known-count t c = search needs
+  whole : (e : ℕ) → (let l = c .before .loop in let a = c .before .before .before .args in Whole e ≡ shift (l .end) (value (l .depth) (drop (l .end) (a .s .now)))
+      → shift (a .at) (items (value (a .most)) (a .n) (drop (a .at) (a .s .now))) ≡ shift e (items (value (l .depth)) (l .left - 1) (drop e (a .s .now))))
+  whole e h = let l = c .before .loop in more ∙ Laws.items-whole (value (l .depth)) (c .before .before .before .args .s .now) (l .end) (l .left - 1) e h
 
 -- a container that may stand here, of a count that fits, and its values
 record Held (s : Bytes) (end depth n from : ℕ) : Type 0 where
@@ -112,90 +71,37 @@ record Held (s : Bytes) (end depth n from : ℕ) : Type 0 where
 held : (t : ℕ) (c : lts.After-known-told3 (calls t) (given t) read-values.Post Inv-loop μ-loop) →
     (let l = c .before .before .before .before .before .loop in let a = c .before .before .before .before .before .before .before .args in let v = c .before .count .given .0 in Held (a .s .now) (l .end) (l .depth) (v .0) (v .1 .0))
 held t c =
-    let o = rw (c .before .count .given .1) at (c .before .before .before .opened .ensures) in
+    let o = rw (c .before .count .given .1) at (c .before .before .before .token-at .ensures) in
     record { deep = o .0; fits = o .1 .0; same = o .1 .1 }
-
-sub-depth : (t : ℕ) → lts.Need-sub-depth (calls t) (given t) read-values.Post Inv-loop μ-loop
-sub-depth t c =
-    let h = held t (c .before) in
-    omega arith
-
-loop-less-2 : (t : ℕ) → lts.Need-loop-less-2 (calls t) (given t) read-values.Post Inv-loop μ-loop
-loop-less-2 t c =
-    let h = held t (c .before) in
-    omega arith
 
 loop-again-2 : (t : ℕ) → lts.Need-loop-again-2 (calls t) (given t) read-values.Post Inv-loop μ-loop
 loop-again-2 t c =
     let h = held t (c .before) in
     let l = c .before .before .before .before .before .before .loop in
-    let a = c .before .before .before .before .before .before .before .before .args in
     let i = rw (c .if1 .taken) at (l .inv .0) in
-    (i ∙ Laws.items-one (value (l .depth)) (a .s .now) (l .end) ∙ h .same, (h .fits, omega arith))
-
-read-items-requires : (t : ℕ) → lts.Need-read-items-requires (calls t) (given t) read-values.Post Inv-loop μ-loop
-read-items-requires t c κs =
-    let h = held t (c .before) in
-    (omega arith, (h .fits, h .deep))
-
-enum-known-next-2 : (t : ℕ) → lts.Need-enum-known-next-2 (calls t) (given t) read-values.Post Inv-loop μ-loop
-enum-known-next-2 t c = search needs
-
-sub-left-2 : (t : ℕ) → lts.Need-sub-left-2 (calls t) (given t) read-values.Post Inv-loop μ-loop
-sub-left-2 t c = omega arith
-
-loop-less-3 : (t : ℕ) → lts.Need-loop-less-3 (calls t) (given t) read-values.Post Inv-loop μ-loop
-loop-less-3 t c = omega arith
+    (i ∙ Laws.items-one (value (l .depth)) _ (l .end) ∙ h .same, (h .fits, omega arith))
 
 loop-again-3 : (t : ℕ) → lts.Need-loop-again-3 (calls t) (given t) read-values.Post Inv-loop μ-loop
 loop-again-3 t c =
-    let l = c .before .before .before .before .before .before .before .before .before .before .loop in
-    let a = c .before .before .before .before .before .before .before .before .before .before .before .before .args in (
-      more t (c .before .before .before .before .before .before .before .before .before)
-          ∙ Laws.items-whole (value (l .depth)) (a .s .now) (l .end) (l .left - 1) (c .before .next2 .given .0 .0) (sym (c .before .next2 .given .1) ∙ c .before .before .before .read-items .ensures ∙ sym (held t (c .before .before .before .before .before) .same)),
-      (omega arith, omega arith),
-    )
-
-enum-known-place-2 : (t : ℕ) → lts.Need-enum-known-place-2 (calls t) (given t) read-values.Post Inv-loop μ-loop
-enum-known-place-2 t c = search needs
+    let d = c .before .before .before in
+    (whole t (d .before .before .before .before .before .before) _ (sym (c .before .next2 .given .1) ∙ d .read-items .ensures ∙ sym (held t (d .before .before) .same)), (omega arith, omega arith))
 
 returns-2 : (t : ℕ) → lts.Need-returns-2 (calls t) (given t) read-values.Post Inv-loop μ-loop
 returns-2 t c =
-    let l = c .before .before .before .before .before .before .before .before .before .before .loop in
-    let a = c .before .before .before .before .before .before .before .before .before .before .before .before .args in
-    Laws.items-broken (value (l .depth)) (a .s .now) (l .end) (l .left - 1) (c .before .place2 .given .0 .0) (sym (c .before .place2 .given .1) ∙ c .before .before .before .read-items .ensures ∙ sym (held t (c .before .before .before .before .before) .same))
-    ∙ sym (more t (c .before .before .before .before .before .before .before .before .before))
+    let d = c .before .before .before in
+    broken t (d .before .before .before .before .before .before) _ (sym (c .before .place2 .given .1) ∙ d .read-items .ensures ∙ sym (held t (d .before .before) .same))
 
 returns-3 : (t : ℕ) → lts.Need-returns-3 (calls t) (given t) read-values.Post Inv-loop μ-loop
 unfolding items
-returns-3 t c =
-    let l = c .before .loop in
-    let e : l .left ≡ 0 = omega arith in
-    let i = rw e at (l .inv .0) in
-    sym (i ∙ ap Whole (add-zero (l .end)))
+returns-3 t c = let l = c .before .loop in let e : l .left ≡ 0 = omega arith in sym (rw e at (l .inv .0) ∙ ap Whole (add-zero (l .end)))
 
 pub +read-items+read-values-spec : {M : Type 1} → statement M
-+read-items+read-values-spec =
-    close μ-items μ
-    (λ t. read-items-lts.spec (items-calls t) (given-items t) read-items.Post (sub-read-values t) (read-values-requires t) (items-returns t))
-    (λ t. lts.spec (calls t) (given t) read-values.Post Inv-loop μ-loop
-    (loop-holds t)
-    (opened-requires t)
-    (enum-known-place t)
-    (returns t)
-    (enum-known-next t)
-    (sub-left t)
-    (loop-less t)
-    (loop-again t)
-    (enum-known-count t)
-    (sub-depth t)
-    (loop-less-2 t)
-    (loop-again-2 t)
-    (read-items-requires t)
-    (enum-known-next-2 t)
-    (sub-left-2 t)
-    (loop-less-3 t)
-    (loop-again-3 t)
-    (enum-known-place-2 t)
-    (returns-2 t)
-    (returns-3 t))
++read-items+read-values-spec = close μ-items μ
+    (λ t. read-items-lts.spec (items-calls t) (given-items t) read-items.Post (λ c. search needs) (λ c κs. (omega arith, omega arith)) (λ c. c .read-values .ensures))
+    (λ t. lts.spec (calls t) (given t) read-values.Post Inv-loop μ-loop (λ c. (refl, (omega arith, omega arith))) (λ c κs. search needs)
+    (λ c. search needs) (λ c. broken t (c .before .before .before .before) _ (rw (c .before .place .given .1) at (c .before .before .before .token-at .ensures)))
+    (λ c. search needs) (λ c. omega arith) (λ c. omega arith)
+    (λ c. (whole t (c .before .before .before .before) _ (rw (c .before .next .given .1) at (c .before .before .before .token-at .ensures)), (omega arith, omega arith)))
+    (λ c. search needs) (λ c. let h = held t (c .before) in omega arith) (λ c. let h = held t (c .before) in omega arith) (loop-again-2 t)
+    (λ c κs. let h = held t (c .before) in (omega arith, (h .fits, h .deep))) (λ c. search needs) (λ c. omega arith) (λ c. omega arith)
+    (loop-again-3 t) (λ c. search needs) (returns-2 t) (returns-3 t))

@@ -5,20 +5,20 @@ use Rattle.msgpack_writing.specs.Forms.{bigEndian, negativeForm}
 use Rattle.msgpack_writing.proofs.negative_head.Statement.{statement}
 use Rattle.msgpack_writing.proofs.negative_head.Tie as tie
 
-returns-3 : tie.Need-returns-3
-unfolding negativeForm
-returns-3 c = simp (le-ltb _ _ (c .before .before .if1 .left), le-ltb _ _ (c .before .if2 .left), lt-ltb _ _ (c .if3 .taken))
-
-returns-4 : tie.Need-returns-4
-unfolding negativeForm
-returns-4 c = simp (le-ltb _ _ (c .before .before .before .if1 .left), le-ltb _ _ (c .before .before .if2 .left), le-ltb _ _ (c .before .if3 .left), lt-ltb _ _ (c .if4 .taken))
-
-returns-5 : tie.Need-returns-5
-unfolding negativeForm
-returns-5 c = simp (le-ltb _ _ (c .before .before .before .if1 .left), le-ltb _ _ (c .before .before .if2 .left), le-ltb _ _ (c .before .if3 .left), le-ltb _ _ (c .if4 .left), lt-ltb _ _ (c .before .before .before .before .pre))
-
 pub negative-head-spec : {M : Type 1} → statement M
+unfolding bigEndian negativeForm
 negative-head-spec =
-    tie.close (tie.spec (λ c. omega arith) (λ c. omega arith) (λ c. unfold bigEndian negativeForm in simp (lt-ltb _ _ (c .if1 .taken)))
-    (λ c. omega arith) (λ c. unfold negativeForm in simp (le-ltb _ _ (c .before .if1 .left), lt-ltb _ _ (c .if2 .taken)))
-    (λ c. omega arith) returns-3 (λ c. omega arith) returns-4 (λ c. omega arith) returns-5)
+    tie.close (tie.spec (λ c. omega arith) (λ c. omega arith) (λ c. simp (lt-ltb _ _ (c .if1 .taken)))
+    (λ c. omega arith) (λ c. simp (le-ltb _ _ (c .before .if1 .left), lt-ltb _ _ (c .if2 .taken))) (λ c. omega arith)
+    (λ c. let d = c .before in simp (le-ltb _ _ (d .before .if1 .left), le-ltb _ _ (d .if2 .left), lt-ltb _ _ (c .if3 .taken)))
+    (λ c. omega arith)
+    (λ c. let d = c .before .before in
+    simp (le-ltb _ _ (d .before .if1 .left), le-ltb _ _ (d .if2 .left), le-ltb _ _ (c .before .if3 .left), lt-ltb _ _ (c .if4 .taken)))
+    (λ c. omega arith)
+    (λ c. let d = c .before .before in simp (
+      le-ltb _ _ (d .before .if1 .left),
+      le-ltb _ _ (d .if2 .left),
+      le-ltb _ _ (c .before .if3 .left),
+      le-ltb _ _ (c .if4 .left),
+      lt-ltb _ _ (d .before .before .pre),
+    )))

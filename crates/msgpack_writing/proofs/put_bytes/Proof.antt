@@ -12,27 +12,14 @@ use Rattle.msgpack_writing.proofs.put_bytes.Tie as tie
 abbrev Inv-loop : tie.InvT-loop
 Inv-loop out₀ bytes i₀ out i = (i ≤ length bytes) × ((length out ≡ length out₀) × (out ≡ take i bytes ++ drop i out₀))
 
-abbrev μ-loop : tie.MeasureT-loop
-μ-loop out₀ bytes i₀ out i = length bytes - i
-
-loop-again : tie.Need-loop-again Inv-loop μ-loop
+loop-again : tie.Need-loop-again Inv-loop (λ out₀ bytes i₀ out i. length bytes - i)
 loop-again c =
     let l = c .before .before in
-    let a = l .before .args in (
-      omega arith,
-      (
-        simp length-set (omega arith),
-        copy-turn (a .out .now) (a .bytes .now) (l .loop .out) (l .loop .i) (omega arith) (omega arith) (l .loop .inv .1 .1),
-      ),
-    )
-
-returns : tie.Need-returns Inv-loop μ-loop
-returns c =
-    let l = c .before in
-    let e : l .loop .i ≡ length (l .before .args .bytes .now) = omega arith in
-    l .loop .inv .1 .1 ∙ rw (e, take-length)
+    let a = l .before .args in
+    (omega arith, (simp length-set (omega arith), copy-turn (a .out .now) (a .bytes .now) (l .loop .out) (l .loop .i) (omega arith) (omega arith) (l .loop .inv .1 .1)))
 
 pub put-bytes-spec : {M : Type 1} → statement M
 put-bytes-spec =
-    tie.close (tie.spec Inv-loop μ-loop (λ c. (omega arith, (refl, refl))) (λ c. omega arith) (λ c. omega arith) (λ c. omega arith)
-    (λ c. omega arith) loop-again (λ c. omega arith) returns)
+    tie.close (tie.spec Inv-loop (λ out₀ bytes i₀ out i. length bytes - i) (λ c. (omega arith, (refl, refl))) (λ c. omega arith)
+    (λ c. omega arith) (λ c. omega arith) (λ c. omega arith) loop-again (λ c. omega arith)
+    (λ c. let l = c .before in let e : l .loop .i ≡ length (l .before .args .bytes .now) = omega arith in l .loop .inv .1 .1 ∙ rw (e, take-length)))

@@ -12,26 +12,16 @@ use Rattle.msgpack_writing.proofs.put_tagged.Tie as tie
 abbrev Inv-loop : tie.InvT-loop
 Inv-loop out₀ tag n width i₀ high₀ out i high = (i ≤ width) × ((length out ≡ length out₀) × (bigEndian i high ++ drop (i + 1) out ≡ bigEndian width n ++ drop (width + 1) out₀))
 
-abbrev μ-loop : tie.MeasureT-loop
-μ-loop out₀ tag n width i₀ high₀ out i high = i
+loop-again : tie.Need-loop-again Inv-loop (λ out₀ tag n width i₀ high₀ out i high. i)
+loop-again c =
+    let l = c .before .loop in
+    (omega arith, (simp length-set (omega arith), number-turn (l .i) (l .high) (l .out) (omega arith) (omega arith) ∙ l .inv .1 .1))
 
-loop-again : tie.Need-loop-again Inv-loop μ-loop
-loop-again c = let l = c .before in (
-  omega arith,
-  (
-    simp length-set (omega arith),
-    number-turn (l .loop .i) (l .loop .high) (l .loop .out) (omega arith) (omega arith) ∙ l .loop .inv .1 .1,
-  ),
-)
-
-returns : tie.Need-returns Inv-loop μ-loop
+returns : tie.Need-returns Inv-loop (λ out₀ tag n width i₀ high₀ out i high. i)
 unfolding bigEndian
-returns c =
-    let l = c .before in
-    let z : l .loop .i ≡ 0 = omega arith in
-    tag-store (l .loop .out) _ _ (omega arith) (rw z at (l .loop .inv .1 .1))
+returns c = let l = c .before .loop in let z : l .i ≡ 0 = omega arith in tag-store (l .out) _ _ (omega arith) (rw z at (l .inv .1 .1))
 
 pub put-tagged-spec : {M : Type 1} → statement M
 put-tagged-spec =
-    tie.close (tie.spec Inv-loop μ-loop (λ c. (omega arith, (refl, refl))) (λ c. omega arith) (λ c. omega arith) (λ c. omega arith)
-    (λ c. omega arith) loop-again (λ c. omega arith) (λ c. simp length-set (omega arith)) returns)
+    tie.close (tie.spec Inv-loop (λ out₀ tag n width i₀ high₀ out i high. i) (λ c. (omega arith, (refl, refl))) (λ c. omega arith)
+    (λ c. omega arith) (λ c. omega arith) (λ c. omega arith) loop-again (λ c. omega arith) (λ c. simp length-set (omega arith)) returns)

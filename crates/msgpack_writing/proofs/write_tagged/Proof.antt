@@ -7,16 +7,6 @@ use Rattle.msgpack_writing.proofs.Lengths.{length-tagged}
 use Rattle.msgpack_writing.proofs.write_tagged.Statement.{statement}
 use Rattle.msgpack_writing.proofs.write_tagged.Tie as tie
 
-returns : tie.Need-returns
-returns c =
-    let a = c .before .before .args in
-    refused _ _ _ (omega (arith, length-tagged (a .tag) (a .width) (a .n)))
-
-returns-2 : tie.Need-returns-2
-returns-2 c =
-    let a = c .before .before .before .args in
-    refused _ _ _ (omega (arith, length-tagged (a .tag) (a .width) (a .n)))
-
 returns-3 : tie.Need-returns-3
 returns-3 c =
     let p = c .before .before in
@@ -25,6 +15,8 @@ returns-3 c =
     (lent _ _ (tagged (a .tag) (a .width) (a .n)) (a .width + 1) (length-tagged (a .tag) (a .width) (a .n)) (omega arith) (p .put-tagged .ensures))
 
 pub write-tagged-spec : {M : Type 1} → statement M
-write-tagged-spec =
-    tie.close (tie.spec returns (λ c. omega arith) returns-2 (λ c. omega arith) (λ c. omega arith) (λ c. omega arith)
-    (λ c κs. omega arith) (λ c. omega arith) (λ c. omega arith) (λ c. omega arith) returns-3)
+write-tagged-spec = tie.close (tie.spec
+    (λ c. let a = c .before .before .args in refused _ _ _ (omega (arith, length-tagged (a .tag) (a .width) (a .n)))) (λ c. omega arith)
+    (λ c. let a = c .before .before .before .args in refused _ _ _ (omega (arith, length-tagged (a .tag) (a .width) (a .n))))
+    (λ c. omega arith) (λ c. omega arith) (λ c. omega arith) (λ c κs. omega arith) (λ c. omega arith) (λ c. omega arith)
+    (λ c. omega arith) returns-3)

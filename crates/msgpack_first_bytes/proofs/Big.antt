@@ -1,5 +1,7 @@
 -- Big-endian numbers: the sum by powers of 256, a byte at a time, over the width. Assumes nothing.
-use mathlib.Core.Path.{_≡_, sym, _∙_}
+use mathlib.Core.Path.{_≡_, refl, sym, _∙_}
+use mathlib.Core.Bool.{Bool, true, false, _&&_}
+use mathlib.Core.Logic.{⊎-elim}
 use mathlib.Core.List.{[], _∷_, _++_}
 use Prim.Native.Nat.{ℕ, _+_, _*_, _^_, _<_, _≤_}
 use native.Mathlib.Nat.{add-zero, mul-assoc}
@@ -7,10 +9,14 @@ use native.Mathlib.Omega.{arith}
 use native.Mathlib.Numerals.{add-one}
 use lib.ListN.{length, length-append, length-drop, getD, take, drop}
 use lib.Seq.{take-suc, getD-drop}
+use borrow.Author.Tests.{leb-true, le-leb}
+use lib.Dec.{leb}
 use lib.Arith.{digits-lt}
 use lib.Pow.{pow-add, pow-mono}
-use Rattle.msgpack_first_bytes.specs.Bytes.{Bytes}
-use Rattle.msgpack_values.specs.Number.{number}
+use Rattle.msgpack_first_bytes.specs.Bytes.{Bytes, pick}
+use Rattle.msgpack_first_bytes.specs.Number.{number, numberAt}
+use Rattle.msgpack_first_bytes.specs.declared.Number.the-variants.{Is, Missing}
+use Rattle.msgpack_first_bytes.proofs.Logic.{impossible, either}
 
 -- one byte more at the low end
 pub number-last : (s : Bytes) (b : ℕ) → number (s ++ (b ∷ [])) ≡ number s * 256 + b
@@ -46,3 +52,17 @@ number-first s at w n h e q = rw e (q ∙ sym (rw add-zero at (number-next s at 
 pub number-step : (s : Bytes) (at i w n m : ℕ) → at + i < length s → w ≡ i + 1 → n ≡ number (take i (drop at s)) → m ≡ n * 256 + getD s (at + i) 0
     → m ≡ number (take w (drop at s))
 number-step s at i w n m h e p q = rw (e, number-next s at i h, ← p) q
+
+-- what the answer of `number_at` says
+pub number-missing : (w at : ℕ) (s : Bytes) → w ≤ 8 → Missing ≡ numberAt w at s → length s < at + w
+number-missing w at s h e =
+    ⊎-elim (λ l. impossible (let q = simp (le-leb w 8 h, le-leb (at + w) (length s) l) at e in cc)) (λ l. l) (either (at + w) (length s))
+
+pub number-is : (w at n : ℕ) (s : Bytes) → Is n ≡ numberAt w at s → (at + w ≤ length s) × (n ≡ number (take w (drop at s)))
+number-is w at n s e = go (leb w 8) (leb (at + w) (length s)) refl e
+  where
+    go : (a b : Bool) → leb (at + w) (length s) ≡ b → Is n ≡ pick (a && b) (Is (number (take w (drop at s)))) Missing
+        → (at + w ≤ length s) × (n ≡ number (take w (drop at s)))
+    go true true q e = (leb-true (at + w) (length s) q, cc)
+    go true false q e = impossible cc
+    go false b q e = impossible cc

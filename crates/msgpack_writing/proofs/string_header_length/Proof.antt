@@ -1,8 +1,8 @@
 -- `string_header_length`: a form is as long as its head says. Assumes nothing.
 use native.Mathlib.Omega.{arith}
 use Rattle.msgpack_writing.proofs.Lengths.{head-length, string-long}
-use Rattle.msgpack_headers.proofs.string_header_length.Statement.{statement}
-use Rattle.msgpack_headers.proofs.string_header_length.Tie as tie
+use Rattle.msgpack_writing.proofs.string_header_length.Statement.{statement}
+use Rattle.msgpack_writing.proofs.string_header_length.Tie as tie
 use borrow.Author.Needs.{needs}
 
 pub string-header-length-spec : {M : Type 1} → statement M

@@ -1,12 +1,18 @@
--- A test decides: a rule of what it chooses, shown in each of the two cases. Assumes nothing.
+-- A case that cannot be, and a choice by a test. Assumes nothing.
 use mathlib.Core.Path.{_≡_, refl}
 use mathlib.Core.Bool.{Bool, true, false}
 use mathlib.Core.Logic.{_⊎_, inl, inr}
 use Prim.Native.Nat.{ℕ, _<_, _≤_}
+use native.Mathlib.Omega.{arith}
 use borrow.Author.Tests.{leb-true, leb-false, ltb-true, ltb-false}
 use lib.Dec.{leb, ltb}
 use Rattle.msgpack_first_bytes.specs.Bytes.{pick}
 
+-- of two constructors that would be equal, `cc` shows this
+pub impossible : {A : Type 0} → _≡_ {A = ℕ} 0 1 → A
+impossible z = absurd (omega arith)
+
+-- a rule of what a test chooses, shown in each of the two cases
 module _ {A : Type 0} (P : A → Type 0) {x y : A} where
   by : (t : Bool) → (t ≡ true → P x) → (t ≡ false → P y) → P (pick t x y)
   by true f g = f refl

@@ -1,4 +1,4 @@
--- What the reader finds at a place before it goes down: words of the inner functions' contracts alone.
+-- Inner: what the reader finds at a place before it goes down. Only contracts of inner functions name it.
 use Prim.Native.Nat.{ℕ, zero, suc, _+_, _-_, _^_, _<_, _≤_}
 use mathlib.Core.Path.{_≡_}
 use lib.ListN.{drop}
@@ -8,8 +8,8 @@ use Rattle.msgpack_first_bytes.specs.declared.Form.the-variants.{Unused, Scalar
 use Rattle.msgpack_values.specs.Value.{shift, items, value}
 use Rattle.msgpack_values.specs.declared.Read.{Read}
 use Rattle.msgpack_values.specs.declared.Read.the-variants.{Whole, Broken}
-use Rattle.msgpack_values.specs.declared.Opening.{Opening}
-use Rattle.msgpack_values.specs.declared.Opening.the-variants.{Past, Holds, Fails}
+use Rattle.msgpack_values.specs.declared.Token.{Token}
+use Rattle.msgpack_values.specs.declared.Token.the-variants.{Past, Holds, Fails}
 
 -- the length of a scalar that its first byte alone tells; 0 for any other form
 unfoldable pub scalarLength : Form → ℕ
@@ -34,8 +34,8 @@ Width w = (1 ≤ w) × ((w ≤ 4) × (w ≡ 3 → ⊥))
 abbrev pub Ends : Bytes → ℕ → ℕ → Type 0
 Ends s at e = 0 < e → (d : ℕ) → Whole e ≡ shift at (value d (drop at s))
 
--- the answer q of a value in s, of depth at most d: known, or that of n values from a place on
-abbrev pub Opens : Bytes → ℕ → Read → Opening → Type 0
-Opens s d q (Past e) = Whole e ≡ q
-Opens s d q (Holds n from) = (0 < d) × ((n < 2 ^ 34) × (q ≡ shift from (items (value (d - 1)) n (drop from s))))
-Opens s d q (Fails p) = Broken p ≡ q
+-- a token tells the answer q of a value in s, of depth at most d: it is known, or that of n values from a place on
+abbrev pub Tells : Bytes → ℕ → Read → Token → Type 0
+Tells s d q (Past e) = Whole e ≡ q
+Tells s d q (Holds n from) = (0 < d) × ((n < 2 ^ 34) × (q ≡ shift from (items (value (d - 1)) n (drop from s))))
+Tells s d q (Fails p) = Broken p ≡ q
