@@ -14,7 +14,7 @@ use Rattle.msgpack_scalars.specs.declared.Natural.the-variants.{Is, Cut, Other}
 use Rattle.frames.specs.declared.OptionalNumber.{OptionalNumber}
 use Rattle.frames.specs.declared.Place.{Place}
 use Rattle.frames.specs.declared.Rule.{Rule}
-use Rattle.frames.specs.Held.{all, view, natural, numberIn, suits, heldIn, heldAt, Item}
+use Rattle.frames.specs.Held.{all, view, asNumber, numberIn, suits, valueHeld, heldAt, Item}
 use Rattle.frames.specs.Keys.{optional}
 
 impossible : {A : Type 0} → _≡_ {A = ℕ} 0 1 → A
@@ -39,20 +39,20 @@ module _ (s : Bytes) (p : Place) where
 
 -- ---- a number
 
-pub number-is : (u : Natural) (n e : ℕ) → Is n e ≡ shiftNatural 0 u → _≡_ {A = OptionalNumber} (record { present = true; value = n }) (optional (natural u))
-unfolding optional natural
+pub number-is : (u : Natural) (n e : ℕ) → Is n e ≡ shiftNatural 0 u → _≡_ {A = OptionalNumber} (record { present = true; value = n }) (optional (asNumber u))
+unfolding optional asNumber
 number-is (Is k l) n e q = let z : n ≡ k = cc in rw z
 number-is Cut n e q = impossible cc
 number-is Other n e q = impossible cc
 
-pub number-cut : (u : Natural) → Cut ≡ shiftNatural 0 u → _≡_ {A = OptionalNumber} (record { present = false; value = 0 }) (optional (natural u))
-unfolding optional natural
+pub number-cut : (u : Natural) → Cut ≡ shiftNatural 0 u → _≡_ {A = OptionalNumber} (record { present = false; value = 0 }) (optional (asNumber u))
+unfolding optional asNumber
 number-cut (Is k l) q = impossible cc
 number-cut Cut q = refl
 number-cut Other q = impossible cc
 
-pub number-other : (u : Natural) → Other ≡ shiftNatural 0 u → _≡_ {A = OptionalNumber} (record { present = false; value = 0 }) (optional (natural u))
-unfolding optional natural
+pub number-other : (u : Natural) → Other ≡ shiftNatural 0 u → _≡_ {A = OptionalNumber} (record { present = false; value = 0 }) (optional (asNumber u))
+unfolding optional asNumber
 number-other (Is k l) q = impossible cc
 number-other Cut q = impossible cc
 number-other Other q = refl
@@ -60,7 +60,7 @@ number-other Other q = refl
 -- ---- by the place: absent, or there
 
 module _ (s : Bytes) (p q : Place) (e : p ≡ q) where
-  pub number-there : (v : Bytes) → p .present ≡ true → v ≡ view s p → optional (natural (unsigned v)) ≡ optional (numberIn s q)
+  pub number-there : (v : Bytes) → p .present ≡ true → v ≡ view s p → optional (asNumber (unsigned v)) ≡ optional (numberIn s q)
   unfolding numberIn
   number-there v h k = rw (k, ← e, h)
 
@@ -68,7 +68,7 @@ module _ (s : Bytes) (p q : Place) (e : p ≡ q) where
   unfolding numberIn optional
   number-none h = rw (← e, h)
 
-  pub suits-there : (r : Rule) (v : Bytes) → p .present ≡ true → v ≡ view s p → suits r (heldIn r v) ≡ suits r (heldAt r s q)
+  pub suits-there : (r : Rule) (v : Bytes) → p .present ≡ true → v ≡ view s p → suits r (valueHeld r v) ≡ suits r (heldAt r s q)
   unfolding heldAt
   suits-there r v h k = rw (k, ← e, h)
 

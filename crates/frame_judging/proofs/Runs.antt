@@ -12,7 +12,7 @@ use lib.Seq.{slice, slice-empty, slice-cons}
 use Rattle.msgpack_first_bytes.specs.Bytes.{Bytes}
 use Rattle.msgpack_values.specs.Pieces.{joined}
 use Rattle.frames.specs.declared.Frame.{Frame}
-use Rattle.frames.specs.Held.{encoded, present, Item, locate}
+use Rattle.frames.specs.Held.{encoded, isSome, Item, locate}
 use Rattle.frames.specs.Keys.{headerItems, bodyItems}
 use Rattle.frames.specs.Writing.{Pair, onto, pairs, flat}
 use Rattle.frame_items.specs.Content.{heldOf, itemOf, allItems, blank, isWritten, pairLength}
@@ -58,8 +58,8 @@ module _ (k : ℕ) {xs rest : List Item} {x : Item} (e : xs ≡ x ∷ rest) wher
   unfolding locate
   locate-on h = rw (e, ne-eqb k (x .key) h)
 
-pub is-present : (s : Bytes) (c : Content) → isWritten c ≡ present (encoded (heldOf s c))
-unfolding isWritten present encoded heldOf
+pub is-present : (s : Bytes) (c : Content) → isWritten c ≡ isSome (encoded (heldOf s c))
+unfolding isWritten isSome encoded heldOf
 is-present s Absent = refl
 is-present s Outside = refl
 is-present s (Number n) = refl
@@ -67,13 +67,13 @@ is-present s (View p) = refl
 
 -- ---- pairs
 
-onto-some : (k : ℕ) (o : Option Bytes) (ps : List Pair) → present o ≡ true → length (onto k o ps) ≡ length ps + 1
-unfolding onto present
+onto-some : (k : ℕ) (o : Option Bytes) (ps : List Pair) → isSome o ≡ true → length (onto k o ps) ≡ length ps + 1
+unfolding onto isSome
 onto-some k none ps h = let z : _≡_ {A = Bool} false true = h in let y : _≡_ {A = ℕ} 0 1 = cc in absurd (omega arith)
 onto-some k (some v) ps h = omega arith
 
-onto-none : (k : ℕ) (o : Option Bytes) (ps : List Pair) → present o ≡ false → length (onto k o ps) ≡ length ps
-unfolding onto present
+onto-none : (k : ℕ) (o : Option Bytes) (ps : List Pair) → isSome o ≡ false → length (onto k o ps) ≡ length ps
+unfolding onto isSome
 onto-none k none ps h = refl
 onto-none k (some v) ps h = let z : _≡_ {A = Bool} true false = h in let y : _≡_ {A = ℕ} 0 1 = cc in absurd (omega arith)
 

@@ -4,7 +4,7 @@ use frames::Frame;
 ghost use mathlib.Core.Path.{_≡_};
 ghost use Prim.Native.Nat.{ℕ, _+_, _≤_};
 ghost use Rattle.msgpack_first_bytes.specs.Bytes.{pick};
-ghost use Rattle.frames.specs.Held.{all, encoded, present, locate};
+ghost use Rattle.frames.specs.Held.{all, encoded, isSome, locate};
 ghost use Rattle.frames.specs.Keys.{bodyItems};
 ghost use Rattle.frame_items.specs.Content.{isWritten, capped};
 ghost use Rattle.frame_judging.specs.Parts.{itemsBetween};
@@ -21,7 +21,7 @@ pub struct Judgement {
 
 // Whether the body holds a key.
 fn holds(frame: Frame, bytes: &[u8], key: usize) -> bool
-    ensures { λ r. ⌜ r ≡ present (encoded (locate (bodyItems frame (now (bytes .entry))) key)) ⌝ }
+    ensures { λ r. ⌜ r ≡ isSome (encoded (locate (bodyItems frame (now (bytes .entry))) key)) ⌝ }
 {
     let mut i: usize = 3;
     while i < 17 {
@@ -37,7 +37,7 @@ fn holds(frame: Frame, bytes: &[u8], key: usize) -> bool
 
 // 10
 pub fn holds_all(frame: Frame, bytes: &[u8], keys: &[usize]) -> bool
-    ensures { λ r. ⌜ r ≡ all (λ (k : ℕ). present (encoded (locate (bodyItems frame (now (bytes .entry))) k))) (now (keys .entry)) ⌝ }
+    ensures { λ r. ⌜ r ≡ all (λ (k : ℕ). isSome (encoded (locate (bodyItems frame (now (bytes .entry))) k))) (now (keys .entry)) ⌝ }
 {
     let mut i: usize = 0;
     while i < keys.len() {

@@ -23,13 +23,13 @@ use Rattle.frames.specs.declared.Frame.{Frame}
 use Rattle.frames.specs.declared.FrameAnswer.{FrameAnswer}
 use Rattle.frames.specs.declared.Size.the-variants.{Promises}
 use Rattle.frames.specs.Limits.{maxSize, maxDepth, heldDepth, max64}
-use Rattle.frames.specs.Held.{all, number, suits, numberHeld, encoded, present, Item, locate}
+use Rattle.frames.specs.Held.{all, number, suits, numberHeld, encoded, isSome, Item, locate}
 use Rattle.frames.specs.Keys.{headerItems, bodyItems, optional, codeIn, frameAt, headerKeys, bodyKeys}
 use Rattle.frames.specs.Codes.{required}
 use Rattle.frames.specs.Maps.{entriesAt, has, keys, distinct, find}
 use Rattle.frames.specs.Cascade.{check, given, whole}
 use Rattle.frames.specs.Reading.{accept, suited, byPlaces, byEntries, bodyValue, bodyEntries, inFrame, sizeBy, sizeOf, bySize, frameRead}
-use Rattle.frames.specs.Writing.{flat, pairs, mapForm, contents, frameForm, sound, each, Outcome, refused, written, writeItems, frameWrite, seen, frameWriteCall}
+use Rattle.frames.specs.Writing.{flat, pairs, mapForm, contents, frameForm, sound, each, Outcome, refused, written, writeItems, frameWrite, callOf, frameWriteCall}
 use Rattle.frame_round_trip.specs.RoundTrip.{RoundTrip, RoundTrips}
 use Rattle.frame_round_trip.proofs.Numbers.{size-read}
 use Rattle.frame_round_trip.proofs.Maps.{All, Fine, located, behind, Stands, seek, map-whole, map-entries, found}
@@ -80,7 +80,7 @@ record Accepted (c : ℕ) (hs bs : List Item) (ks : List ℕ) : Type 0 where
   coded : locate hs 0 ≡ number c
   small : c < 2 ^ 64
   known : required c ≡ some ks
-  needed : all (λ (k : ℕ). present (encoded (locate bs k))) ks ≡ true
+  needed : all (λ (k : ℕ). isSome (encoded (locate bs k))) ks ≡ true
   short : length (contents hs bs) ≤ maxSize
   head-known : (s : Bytes) (f : ℕ → Place) → suited headerKeys s f ≡ suited hs s f
   body-known : (s : Bytes) (g : ℕ → Place) → suited bodyKeys s g ≡ suited bs s g
@@ -214,7 +214,7 @@ record Passed (c : ℕ) (hs bs : List Item) (room : ℕ) (v : Bytes) : Type 0 wh
   known : required c ≡ some ks
   sounds : each (λ (x : Item). sound (x .held)) hs bs ≡ true
   fits : each (λ (x : Item). suits (x .rule) (x .held)) hs bs ≡ true
-  needed : all (λ (k : ℕ). present (encoded (locate bs k))) ks ≡ true
+  needed : all (λ (k : ℕ). isSome (encoded (locate bs k))) ks ≡ true
   short : length (contents hs bs) ≤ maxSize
   roomy : length v ≤ room
   made : v ≡ frameForm (contents hs bs)
@@ -227,7 +227,7 @@ passes c hs bs room v h = go (required c) refl h
         → given (refused 8) o (λ needs.
         check (refused 4) (each (λ (x : Item). sound (x .held)) hs bs)
         (check (refused 9) (each (λ (x : Item). suits (x .rule) (x .held)) hs bs)
-        (check (refused 10) (all (λ (k : ℕ). present (encoded (locate bs k))) needs)
+        (check (refused 10) (all (λ (k : ℕ). isSome (encoded (locate bs k))) needs)
         (check (refused 3) (leb (length (contents hs bs)) maxSize)
         (check (refused 18) (leb (length (frameForm (contents hs bs))) room)
         (written (frameForm (contents hs bs)))))))) ≡ written v
@@ -362,7 +362,7 @@ module _ (r : Frame) (s : Bytes) (room : ℕ) (p : Passed (r .code) (headerItems
       ∙ again-written (r .code) (headerItems r) (bodyItems r s) room large x p l
 
   trip : RoundTrip r s x
-  unfolding accept frameWriteCall seen
+  unfolding accept frameWriteCall callOf
   trip =
       record {
         accepted = ap (λ (o : FrameAnswer). o .number) read-alone;
@@ -370,7 +370,7 @@ module _ (r : Frame) (s : Bytes) (room : ℕ) (p : Passed (r .code) (headerItems
         header = same-header;
         body = same-body;
         followed = λ t. read-front t ∙ sym read-alone;
-        again = λ old l. ap (seen old) (rewritten (length old) l);
+        again = λ old l. ap (callOf old) (rewritten (length old) l);
       }
 
 written-trip : (r : Frame) (s : Bytes) (room : ℕ) (v : Bytes) → frameWrite r s room ≡ written v → RoundTrip r s v
@@ -396,7 +396,7 @@ write-fair c hs bs room = go (required c)
     go : (o : Option (List ℕ)) → Fair (given (refused 8) o (λ needs.
         check (refused 4) (each (λ (x : Item). sound (x .held)) hs bs)
         (check (refused 9) (each (λ (x : Item). suits (x .rule) (x .held)) hs bs)
-        (check (refused 10) (all (λ (k : ℕ). present (encoded (locate bs k))) needs)
+        (check (refused 10) (all (λ (k : ℕ). isSome (encoded (locate bs k))) needs)
         (check (refused 3) (leb (length (contents hs bs)) maxSize)
         (check (refused 18) (leb (length (frameForm (contents hs bs))) room)
         (written (frameForm (contents hs bs)))))))))
@@ -409,9 +409,9 @@ write-fair c hs bs room = go (required c)
         (check-fair 18 _ _ (λ e. omega arith) tt))))
 
 pub round-trip : RoundTrips
-unfolding frameWriteCall seen frameWrite
+unfolding frameWriteCall callOf frameWrite
 round-trip r s old h = go (frameWrite r s (length old)) refl (write-fair (r .code) (headerItems r) (bodyItems r s) (length old)) h
   where
-    go : (o : Outcome) → frameWrite r s (length old) ≡ o → Fair o → seen old o .number ≡ 0 → RoundTrip r s (take (seen old o .length) (seen old o .buffer))
+    go : (o : Outcome) → frameWrite r s (length old) ≡ o → Fair o → callOf old o .number ≡ 0 → RoundTrip r s (take (callOf old o .length) (callOf old o .buffer))
     go (refused n) q f h = absurd (f h)
     go (written v) q f h = subst (RoundTrip r s) (sym (take-append-seam v (drop (length v) old))) (written-trip r s (length old) v q)

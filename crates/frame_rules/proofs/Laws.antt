@@ -15,8 +15,8 @@ use Rattle.msgpack_scalars.specs.Header.{shiftHeader}
 use Rattle.msgpack_scalars.specs.declared.Natural.{Natural}
 use Rattle.msgpack_scalars.specs.declared.Natural.the-variants.{Is, Cut, Other}
 use Rattle.msgpack_scalars.specs.declared.Header.{Header}
-use Rattle.msgpack_scalars.specs.declared.Header.the-variants.{Is as Opens, Other as Elsewhere}
-use Rattle.frames.specs.Held.{natural, numbered, heldIn, suits, opened}
+use Rattle.msgpack_scalars.specs.declared.Header.the-variants.{Is as HeaderIs, Other as NoHeader}
+use Rattle.frames.specs.Held.{asNumber, numberOrBytes, valueHeld, suits, isHeader}
 use Rattle.frames.specs.Codes.{codes, among, isError, required}
 use Rattle.frames.specs.declared.Rule.the-variants.{AtMost}
 use Rattle.frame_rules.specs.Needs.{needed, knownNeeds}
@@ -27,40 +27,40 @@ impossible z = absurd (omega arith)
 
 -- ---- 9
 
-pub is-opened : (h : Header) (n e : ℕ) → Opens n e ≡ shiftHeader 0 h → true ≡ opened h
-unfolding opened
-is-opened (Opens m l) n e q = refl
-is-opened Elsewhere n e q = impossible cc
+pub is-opened : (h : Header) (n e : ℕ) → HeaderIs n e ≡ shiftHeader 0 h → true ≡ isHeader h
+unfolding isHeader
+is-opened (HeaderIs m l) n e q = refl
+is-opened NoHeader n e q = impossible cc
 
-pub not-opened : (h : Header) → Elsewhere ≡ shiftHeader 0 h → false ≡ opened h
-unfolding opened
-not-opened (Opens m l) q = impossible cc
-not-opened Elsewhere q = refl
+pub not-opened : (h : Header) → NoHeader ≡ shiftHeader 0 h → false ≡ isHeader h
+unfolding isHeader
+not-opened (HeaderIs m l) q = impossible cc
+not-opened NoHeader q = refl
 
 module _ (v : Bytes) (m : ℕ) where
-  pub number-suits : (n e : ℕ) → Is n e ≡ shiftNatural 0 (unsigned v) → leb n m ≡ suits (AtMost m) (heldIn (AtMost m) v)
-  unfolding suits heldIn numbered natural
+  pub number-suits : (n e : ℕ) → Is n e ≡ shiftNatural 0 (unsigned v) → leb n m ≡ suits (AtMost m) (valueHeld (AtMost m) v)
+  unfolding suits valueHeld numberOrBytes asNumber
   number-suits n e q = go (unsigned v) q
     where
-      go : (u : Natural) → Is n e ≡ shiftNatural 0 u → leb n m ≡ suits (AtMost m) (numbered (natural u) v)
+      go : (u : Natural) → Is n e ≡ shiftNatural 0 u → leb n m ≡ suits (AtMost m) (numberOrBytes (asNumber u) v)
       go (Is k l) q = let z : n ≡ k = cc in rw z
       go Cut q = impossible cc
       go Other q = impossible cc
 
-  pub cut-suits : Cut ≡ shiftNatural 0 (unsigned v) → false ≡ suits (AtMost m) (heldIn (AtMost m) v)
-  unfolding suits heldIn numbered natural
+  pub cut-suits : Cut ≡ shiftNatural 0 (unsigned v) → false ≡ suits (AtMost m) (valueHeld (AtMost m) v)
+  unfolding suits valueHeld numberOrBytes asNumber
   cut-suits q = go (unsigned v) q
     where
-      go : (u : Natural) → Cut ≡ shiftNatural 0 u → false ≡ suits (AtMost m) (numbered (natural u) v)
+      go : (u : Natural) → Cut ≡ shiftNatural 0 u → false ≡ suits (AtMost m) (numberOrBytes (asNumber u) v)
       go (Is k l) q = impossible cc
       go Cut q = refl
       go Other q = impossible cc
 
-  pub other-suits : Other ≡ shiftNatural 0 (unsigned v) → false ≡ suits (AtMost m) (heldIn (AtMost m) v)
-  unfolding suits heldIn numbered natural
+  pub other-suits : Other ≡ shiftNatural 0 (unsigned v) → false ≡ suits (AtMost m) (valueHeld (AtMost m) v)
+  unfolding suits valueHeld numberOrBytes asNumber
   other-suits q = go (unsigned v) q
     where
-      go : (u : Natural) → Other ≡ shiftNatural 0 u → false ≡ suits (AtMost m) (numbered (natural u) v)
+      go : (u : Natural) → Other ≡ shiftNatural 0 u → false ≡ suits (AtMost m) (numberOrBytes (asNumber u) v)
       go (Is k l) q = impossible cc
       go Cut q = impossible cc
       go Other q = refl

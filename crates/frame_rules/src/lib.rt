@@ -8,7 +8,7 @@ ghost use Prim.Native.Nat.{_≤_};
 ghost use lib.ListN.{length};
 ghost use Rattle.msgpack_scalars.specs.Start.{startBy};
 ghost use Rattle.msgpack_scalars.specs.Header.{header};
-ghost use Rattle.frames.specs.Held.{heldIn, suits, opened};
+ghost use Rattle.frames.specs.Held.{valueHeld, suits, isHeader};
 ghost use Rattle.frames.specs.Codes.{required};
 ghost use Rattle.frame_rules.specs.Needs.{needed, knownNeeds};
 
@@ -20,7 +20,7 @@ pub struct Needs {
 }
 
 fn opens(v: &[u8], opening: Opening) -> bool
-    ensures { λ r. ⌜ r ≡ opened (header (startBy opening) (now (v .entry))) ⌝ }
+    ensures { λ r. ⌜ r ≡ isHeader (header (startBy opening) (now (v .entry))) ⌝ }
 {
     match msgpack_scalars::header_at(v, 0, opening) {
         Header::Is(_, _) => true,
@@ -29,7 +29,7 @@ fn opens(v: &[u8], opening: Opening) -> bool
 }
 
 fn at_most(v: &[u8], limit: u64) -> bool
-    ensures { λ r. ⌜ r ≡ suits (Rule.AtMost limit) (heldIn (Rule.AtMost limit) (now (v .entry))) ⌝ }
+    ensures { λ r. ⌜ r ≡ suits (Rule.AtMost limit) (valueHeld (Rule.AtMost limit) (now (v .entry))) ⌝ }
 {
     match msgpack_scalars::unsigned_at(v, 0) {
         Natural::Is(n, _) => n <= limit,
@@ -40,7 +40,7 @@ fn at_most(v: &[u8], limit: u64) -> bool
 
 // Whether the bytes of a value suit what their key must hold.
 pub fn suits_rule(rule: Rule, v: &[u8]) -> bool
-    ensures { λ r. ⌜ r ≡ suits rule (heldIn rule (now (v .entry))) ⌝ }
+    ensures { λ r. ⌜ r ≡ suits rule (valueHeld rule (now (v .entry))) ⌝ }
 {
     match rule {
         Rule::AtMost(limit) => at_most(v, limit),

@@ -13,11 +13,11 @@ use Rattle.msgpack_writing.proofs.Lengths.{length-tagged}
 use Rattle.msgpack_writing.proofs.Put.{wrote}
 use Rattle.frames.specs.declared.Frame.{Frame}
 use Rattle.frames.specs.Limits.{maxSize}
-use Rattle.frames.specs.Held.{all, suits, encoded, present, Item, locate}
+use Rattle.frames.specs.Held.{all, suits, encoded, isSome, Item, locate}
 use Rattle.frames.specs.Keys.{headerItems, bodyItems}
 use Rattle.frames.specs.Codes.{required}
 use Rattle.frames.specs.Cascade.{check, given}
-use Rattle.frames.specs.Writing.{contents, frameForm, sound, each, writeItems, frameWrite, Call, seen, frameWriteCall}
+use Rattle.frames.specs.Writing.{contents, frameForm, sound, each, writeItems, frameWrite, Call, callOf, frameWriteCall}
 use Rattle.frame_rules.specs.Needs.{needed}
 use Rattle.frame_rules.specs.declared.Needs.{Needs}
 use Rattle.frame_judging.specs.Parts.{itemsBetween}
@@ -35,7 +35,7 @@ abbrev pub Suited : Frame → Bytes → Bool → Type 0
 Suited r s b = b ≡ each (λ (x : Item). suits (x .rule) (x .held)) (headerItems r) (bodyItems r s)
 
 abbrev pub There : Frame → Bytes → List ℕ → Bool → Type 0
-There r s needs b = b ≡ all (λ (k : ℕ). present (encoded (locate (bodyItems r s) k))) needs
+There r s needs b = b ≡ all (λ (k : ℕ). isSome (encoded (locate (bodyItems r s) k))) needs
 
 abbrev pub contentsOf : Frame → Bytes → Bytes
 contentsOf r s = contents (headerItems r) (bodyItems r s)
@@ -51,37 +51,37 @@ module _ (r : Frame) (s old : Bytes) where
   body = contentsOf r s
 
   pub call-8 : none ≡ required (r .code) → unwritten 8 old ≡ frameWriteCall r s old
-  unfolding frameWriteCall frameWrite writeItems given seen
+  unfolding frameWriteCall frameWrite writeItems given callOf
   call-8 e = rw (← e)
 
   module _ (needs : List ℕ) (e8 : some needs ≡ required (r .code)) where
     pub call-4 : Sound r s false → unwritten 4 old ≡ frameWriteCall r s old
-    unfolding frameWriteCall frameWrite writeItems given check seen
+    unfolding frameWriteCall frameWrite writeItems given check callOf
     call-4 e4 = rw (← e8, ← e4)
 
     module _ (e4 : Sound r s true) where
       pub call-9 : Suited r s false → unwritten 9 old ≡ frameWriteCall r s old
-      unfolding frameWriteCall frameWrite writeItems given check seen
+      unfolding frameWriteCall frameWrite writeItems given check callOf
       call-9 e9 = rw (← e8, ← e4, ← e9)
 
       module _ (e9 : Suited r s true) where
         pub call-10 : There r s needs false → unwritten 10 old ≡ frameWriteCall r s old
-        unfolding frameWriteCall frameWrite writeItems given check seen
+        unfolding frameWriteCall frameWrite writeItems given check callOf
         call-10 e10 = rw (← e8, ← e4, ← e9, ← e10)
 
         module _ (e10 : There r s needs true) where
           pub call-3 : maxSize < length body → unwritten 3 old ≡ frameWriteCall r s old
-          unfolding frameWriteCall frameWrite writeItems given check seen
+          unfolding frameWriteCall frameWrite writeItems given check callOf
           call-3 h = rw (← e8, ← e4, ← e9, ← e10, lt-leb (length body) maxSize h)
 
           module _ (h3 : length body ≤ maxSize) where
             pub call-18 : length old < length (frameForm body) → unwritten 18 old ≡ frameWriteCall r s old
-            unfolding frameWriteCall frameWrite writeItems given check seen
+            unfolding frameWriteCall frameWrite writeItems given check callOf
             call-18 h = rw (← e8, ← e4, ← e9, ← e10, le-leb (length body) maxSize h3, lt-leb (length (frameForm body)) (length old) h)
 
             pub call-0 : length (frameForm body) ≤ length old → {n : ℕ} {cur : Bytes} → (n ≡ next 0 (frameForm body) old) × (cur ≡ put 0 (frameForm body) old)
                 → _≡_ {A = Call} (record { number = 0; length = n; buffer = cur }) (frameWriteCall r s old)
-            unfolding frameWriteCall frameWrite writeItems given check seen
+            unfolding frameWriteCall frameWrite writeItems given check callOf
             call-0 h {n} {cur} e =
                 let w = wrote old 0 (frameForm body) e (omega arith) in
                 let z : 0 + length (frameForm body) ≡ length (frameForm body) = omega arith in

@@ -1,7 +1,7 @@
 -- By the rule. Assumes nothing.
 use mathlib.Core.Path.{sym, ap, _∙_}
 use borrow.Author.Needs.{needs}
-use Rattle.frames.specs.Held.{heldIn, suits}
+use Rattle.frames.specs.Held.{valueHeld, suits}
 use Rattle.frames.specs.declared.Rule.{Rule}
 use Rattle.frame_rules.proofs.suits_rule.Statement.{statement}
 use Rattle.frame_rules.proofs.suits_rule.Tie as tie
@@ -9,25 +9,25 @@ use Rattle.frame_rules.proofs.suits_rule.Tie as tie
 returns : tie.Need-returns
 returns c =
     let a = c .before .before .before .before .before .args in
-    c .at-most .ensures ∙ ap (λ (r : Rule). suits r (heldIn r (a .v .now))) (sym (c .before .before .rule .given .1))
+    c .at-most .ensures ∙ ap (λ (r : Rule). suits r (valueHeld r (a .v .now))) (sym (c .before .before .rule .given .1))
 
 returns-2 : tie.Need-returns-2
-unfolding suits heldIn
+unfolding suits valueHeld
 returns-2 c =
     let a = c .before .before .before .before .args in
-    c .opens .ensures ∙ ap (λ (r : Rule). suits r (heldIn r (a .v .now))) (sym (c .before .enum-told .given .1))
+    c .opens .ensures ∙ ap (λ (r : Rule). suits r (valueHeld r (a .v .now))) (sym (c .before .enum-told .given .1))
 
 returns-3 : tie.Need-returns-3
-unfolding suits heldIn
+unfolding suits valueHeld
 returns-3 c =
     let a = c .before .before .before .before .args in
-    c .opens2 .ensures ∙ ap (λ (r : Rule). suits r (heldIn r (a .v .now))) (sym (c .before .enum-told2 .given .1))
+    c .opens2 .ensures ∙ ap (λ (r : Rule). suits r (valueHeld r (a .v .now))) (sym (c .before .enum-told2 .given .1))
 
 returns-4 : tie.Need-returns-4
-unfolding suits heldIn
+unfolding suits valueHeld
 returns-4 c =
     let a = c .before .before .before .args in
-    ap (λ (r : Rule). suits r (heldIn r (a .v .now))) (sym (c .enum-told3 .given .1))
+    ap (λ (r : Rule). suits r (valueHeld r (a .v .now))) (sym (c .enum-told3 .given .1))
 
 pub suits-rule-spec : {M : Type 1} → statement M
 suits-rule-spec =
