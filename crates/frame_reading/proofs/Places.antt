@@ -3,33 +3,28 @@ use mathlib.Core.Path.{_≡_, refl, sym, ap, ap₂, _∙_}
 use mathlib.Core.List.{List}
 use mathlib.Core.Bool.{Bool, true, false, _&&_, _||_}
 use mathlib.Core.Option.{Option, none, some}
-use Prim.Native.Nat.{ℕ, _-_}
-use native.Mathlib.Omega.{arith}
+use Prim.Native.Nat.{ℕ}
 use lib.Dec.{eqb}
-use lib.ListN.{length, take, replicate}
+use lib.ListN.{length, replicate}
 use Rattle.msgpack_first_bytes.specs.Bytes.{Bytes, pick}
 use Rattle.frames.specs.declared.OptionalNumber.{OptionalNumber}
 use Rattle.frames.specs.declared.Place.{Place}
 use Rattle.frames.specs.declared.Frame.{Frame}
 use Rattle.frames.specs.declared.FrameAnswer.{FrameAnswer}
 use Rattle.frames.specs.Held.{all}
-use Rattle.frames.specs.Keys.{optional, codeIn, frameAt, headerKeys, bodyKeys}
+use Rattle.frames.specs.Keys.{optional, codeIn, frameAt, headerTable, bodyTable}
 use Rattle.frames.specs.Codes.{required}
 use Rattle.frames.specs.Limits.{heldDepth}
 use Rattle.frames.specs.Maps.{Entry, entriesAt, keys, distinct}
 use Rattle.frames.specs.Cascade.{check, given}
 use Rattle.frames.specs.Reading.{refuse, accept, suited, byPlaces, byEntries}
+use Rattle.frames.proofs.Front.{impossible}
 use Rattle.frame_tables.specs.Tables.{Table, table, emptyTable, laidAll, tabledOn, tabled, placeIn}
 use Rattle.frame_tables.proofs.Entries.{AllFit, nil, all-fit}
 use Rattle.frame_tables.proofs.Found.{places-found, number-found, tabled-room}
-use Rattle.frame_rules.specs.declared.Needs.{Needs}
-use Rattle.frame_rules.specs.Needs.{needed}
 use Rattle.frame_reading.specs.Steps.{entriesIn}
 use Rattle.frame_reading.specs.declared.Body.{Body}
 use Rattle.frame_reading.specs.declared.Body.the-variants.{At, Missing}
-
-impossible : {A : Type 0} → _≡_ {A = ℕ} 0 1 → A
-impossible z = absurd (omega arith)
 
 differ : {A : Type 0} → true ≡ false → A
 differ e = impossible cc
@@ -45,14 +40,6 @@ pub code-there : (o : Option ℕ) (n : OptionalNumber) → n ≡ optional o → 
 unfolding optional
 code-there none n e h = differ (sym h ∙ ap (λ (x : OptionalNumber). x .present) e)
 code-there (some c) n e h = rw e
-
-pub needs-none : (n : Needs) (o : Option (List ℕ)) → needed n ≡ o → n .known ≡ false → o ≡ none
-unfolding needed
-needs-none n o e h = sym e ∙ rw h
-
-pub needs-some : (n : Needs) (o : Option (List ℕ)) → needed n ≡ o → n .known ≡ true → o ≡ some (take (n .count) (n .keys))
-unfolding needed
-needs-some n o e h = sym e ∙ rw h
 
 pub both-are : {a b x y v : Bool} → a ≡ x → b ≡ y → (a && b) ≡ v → (x && y) ≡ v
 both-are e q h = ap₂ _&&_ (sym e) (sym q) ∙ h
@@ -70,15 +57,15 @@ module _ (s : Bytes) (f g : ℕ → Place) where
     no-such-code e = rw (ec, e)
 
     module _ (ks : List ℕ) (ek : required c ≡ some ks) where
-      pub unsuited : (suited headerKeys s f && suited bodyKeys s g) ≡ false → refuse 9 ≡ byPlaces s f g
+      pub unsuited : (suited headerTable s f && suited bodyTable s g) ≡ false → refuse 9 ≡ byPlaces s f g
       unfolding byPlaces given check
       unsuited e = rw (ec, ek, e)
 
-      pub not-all-there : (suited headerKeys s f && suited bodyKeys s g) ≡ true → all (λ (k : ℕ). g k .present) ks ≡ false → refuse 10 ≡ byPlaces s f g
+      pub not-all-there : (suited headerTable s f && suited bodyTable s g) ≡ true → all (λ (k : ℕ). g k .present) ks ≡ false → refuse 10 ≡ byPlaces s f g
       unfolding byPlaces given check
       not-all-there e h = rw (ec, ek, e, h)
 
-      pub accepted : (suited headerKeys s f && suited bodyKeys s g) ≡ true → all (λ (k : ℕ). g k .present) ks ≡ true
+      pub accepted : (suited headerTable s f && suited bodyTable s g) ≡ true → all (λ (k : ℕ). g k .present) ks ≡ true
           → (r : Frame) → r ≡ frameAt c s f g → _≡_ {A = FrameAnswer} (record { number = 0; length = length s; frame = r }) (byPlaces s f g)
       unfolding byPlaces given check accept
       accepted e h r q = rw (ec, ek, e, h, q)

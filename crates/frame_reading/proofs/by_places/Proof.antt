@@ -5,8 +5,9 @@ use borrow.Author.Tests.{not-true, not-false}
 use lib.Seq.{length-take-le}
 use Rattle.frames.specs.Keys.{codeIn}
 use Rattle.frames.specs.Codes.{required}
+use Rattle.frame_rules.proofs.Laws.{code-unknown, code-known, keys-fit}
 use Rattle.frame_tables.specs.Tables.{placeIn}
-use Rattle.frame_reading.proofs.Places.{code-absent, code-there, needs-none, needs-some, both-are, no-code, no-such-code, unsuited, not-all-there, accepted}
+use Rattle.frame_reading.proofs.Places.{code-absent, code-there, both-are, no-code, no-such-code, unsuited, not-all-there, accepted}
 use Rattle.frame_reading.proofs.by_places.Statement.{statement}
 use Rattle.frame_reading.proofs.by_places.Tie as tie
 
@@ -28,7 +29,7 @@ returns-2 c =
     c .refused2 .ensures
     ∙ no-such-code (a .s .now) (placeIn (a .header-starts .now) (a .header-lengths .now)) (placeIn (a .starts .now) (a .lengths .now))
     _ (code-there _ _ (n .number-in .ensures) (not-false _ (d .before .if1 .left)))
-    (needs-none _ _ (d .needs-of .ensures .0) (not-true _ (c .before .if2 .taken)))
+    (code-unknown _ (d .needs-of .ensures) (not-true _ (c .before .if2 .taken)))
 
 returns-3 : tie.Need-returns-3
 unfolding codeIn
@@ -40,13 +41,13 @@ returns-3 c =
     c .refused3 .ensures
     ∙ unsuited (a .s .now) (placeIn (a .header-starts .now) (a .header-lengths .now)) (placeIn (a .starts .now) (a .lengths .now))
     _ (code-there _ _ (n .number-in .ensures) (not-false _ (d .before .if1 .left)))
-    _ (needs-some _ _ (d .needs-of .ensures .0) (not-false _ (h .before .if2 .left)))
+    _ (code-known _ (d .needs-of .ensures) (not-false _ (h .before .if2 .left)))
     (both-are (h .header-suits .ensures) (c .before .before .body-suits .ensures) (not-true _ (c .before .if3 .taken)))
 
 slice-aggregate-all-there : tie.Need-slice-aggregate-all-there
 slice-aggregate-all-there c =
     let d = c .before .before .before .before .before .before .before in
-    sym (length-take-le _ (d .needs-of .result .keys) (d .needs-of .ensures .1))
+    sym (length-take-le _ (d .needs-of .result .keys) (keys-fit _ (d .needs-of .ensures)))
 
 returns-4 : tie.Need-returns-4
 unfolding codeIn
@@ -59,7 +60,7 @@ returns-4 c =
     c .refused4 .ensures
     ∙ not-all-there (a .s .now) (placeIn (a .header-starts .now) (a .header-lengths .now)) (placeIn (a .starts .now) (a .lengths .now))
     _ (code-there _ _ (n .number-in .ensures) (not-false _ (d .before .if1 .left)))
-    _ (needs-some _ _ (d .needs-of .ensures .0) (not-false _ (h .before .if2 .left)))
+    _ (code-known _ (d .needs-of .ensures) (not-false _ (h .before .if2 .left)))
     (both-are (h .header-suits .ensures) (i .before .body-suits .ensures) (not-false _ (i .if3 .left)))
     (sym (c .before .before .all-there .ensures) ∙ not-true _ (c .before .if4 .taken))
 
@@ -73,7 +74,7 @@ returns-5 c =
     let a = n .before .before .before .before .before .before .args in
     accepted (a .s .now) (placeIn (a .header-starts .now) (a .header-lengths .now)) (placeIn (a .starts .now) (a .lengths .now))
     _ (code-there _ _ (n .number-in .ensures) (not-false _ (d .before .if1 .left)))
-    _ (needs-some _ _ (d .needs-of .ensures .0) (not-false _ (h .before .if2 .left)))
+    _ (code-known _ (d .needs-of .ensures) (not-false _ (h .before .if2 .left)))
     (both-are (h .header-suits .ensures) (i .before .body-suits .ensures) (not-false _ (i .if3 .left)))
     (sym (c .before .before .all-there .ensures) ∙ not-false _ (c .before .if4 .left))
     _ (c .frame-of .ensures)
@@ -82,5 +83,5 @@ pub by-places-spec : {M : Type 1} → statement M
 by-places-spec =
     tie.close (tie.spec (λ c κs. search needs) (λ c κs. search needs) returns (λ c κs. search needs) (λ c κs. search needs) returns-2
     (λ c κs. search needs) (λ c κs. search needs) (λ c κs. search needs) returns-3
-    (λ c. c .before .before .before .before .before .before .needs-of .ensures .1) slice-aggregate-all-there
+    (λ c. keys-fit _ (c .before .before .before .before .before .before .needs-of .ensures)) slice-aggregate-all-there
     (λ c κs. search needs) (λ c κs. search needs) returns-4 (λ c κs. search needs) returns-5)
