@@ -22,14 +22,14 @@ returns c =
     let b = c .before in
     let l = b .before .before .before .loop in
     let a = b .before .before .before .before .before .before .args in
-    sym (all-fails (λ (k : ℕ). isSome (encoded (locate (bodyItems (a .frame) (a .bytes .now)) k))) (a .keys .now) (l .i) (b .before .before .loop-test .taken) (sym (b .holds .ensures) ∙ not-true _ (c .if1 .taken))) ∙ l .inv .1
+    sym (all-fails (λ (k : ℕ). isSome (encoded (locate (bodyItems (a .frame) (a .bytes .now)) k))) (a .keys .now) 0 (l .i) (b .before .before .loop-test .taken) (sym (b .holds .ensures) ∙ not-true _ (c .if1 .taken))) ∙ l .inv .1
 
 loop-again : tie.Need-loop-again Inv-loop μ-loop
 loop-again c =
     let b = c .before in
     let l = b .before .before .before .loop in
     let a = b .before .before .before .before .before .before .args in
-    (omega arith, all-goes-on (λ (k : ℕ). isSome (encoded (locate (bodyItems (a .frame) (a .bytes .now)) k))) (a .keys .now) (l .i) (b .before .before .loop-test .taken) (sym (b .holds .ensures) ∙ not-false _ (c .if1 .left)) ∙ l .inv .1)
+    (omega arith, all-goes-on (λ (k : ℕ). isSome (encoded (locate (bodyItems (a .frame) (a .bytes .now)) k))) (a .keys .now) 0 (l .i) (b .before .before .loop-test .taken) (sym (b .holds .ensures) ∙ not-false _ (c .if1 .left)) ∙ l .inv .1)
 
 returns-2 : tie.Need-returns-2 Inv-loop μ-loop
 unfolding all
