@@ -20,7 +20,6 @@ use Rattle.frames.specs.Limits.{max64, heldDepth}
 use Rattle.frames.specs.Held.{all, Held, absent, outside, number, bytes, view, numberIn, suits, numberOrBytes, valueHeld, heldAt, numberHeld, placeHeld, encoded, isSome, Item, item, locate}
 use Rattle.frames.specs.Keys.{optional}
 use Rattle.frames.specs.Maps.{keys, has, distinct}
-use Rattle.frames.specs.Reading.{suited}
 use Rattle.frames.specs.Writing.{Pair, onto, pairs, isWhole, sound}
 use Rattle.frame_round_trip.proofs.Numbers.{unsigned-form, form-whole}
 use Rattle.frame_round_trip.proofs.Maps.{All, Fine, located, Holds, Stands, seek}
@@ -258,8 +257,11 @@ reread-back s f [] h = refl
 reread-back s f (x ∷ xs) h = ap₂ (λ (a : Held) (l : List Item). item (x .key) (x .rule) a ∷ l) (h .0 .shows) (reread-back s f xs (h .1))
 
 -- 9 does not come
-pub suited-back : (s : Bytes) (f : ℕ → Place) (xs : List Item) → Backs s f xs → All Ready xs → suited xs s f ≡ true
-unfolding suited all
+abbrev pub suitedItems : List Item → Bytes → (ℕ → Place) → Bool
+suitedItems xs s f = all (λ (x : Item). suits (x .rule) (heldAt (x .rule) s (f (x .key)))) xs
+
+pub suited-back : (s : Bytes) (f : ℕ → Place) (xs : List Item) → Backs s f xs → All Ready xs → suitedItems xs s f ≡ true
+unfolding all
 suited-back s f [] h r = refl
 suited-back s f (x ∷ xs) h r = rw (h .0 .reads, r .0 .fit) (suited-back s f xs (h .1) (r .1))
 

@@ -24,7 +24,7 @@ use Rattle.frames.specs.declared.FrameAnswer.{FrameAnswer}
 use Rattle.frames.specs.declared.Size.the-variants.{Promises}
 use Rattle.frames.specs.Limits.{maxSize, maxDepth, heldDepth, max64}
 use Rattle.frames.specs.Held.{all, number, suits, numberHeld, encoded, isSome, Item, locate}
-use Rattle.frames.specs.Keys.{headerItems, bodyItems, optional, codeIn, frameAt, headerKeys, bodyKeys}
+use Rattle.frames.specs.Keys.{headerItems, bodyItems, optional, codeIn, frameAt, headerTable, bodyTable}
 use Rattle.frames.specs.Codes.{required}
 use Rattle.frames.specs.Maps.{entriesAt, has, keys, distinct, find}
 use Rattle.frames.specs.Cascade.{check, given, whole}
@@ -34,7 +34,7 @@ use Rattle.frame_round_trip.specs.RoundTrip.{RoundTrip, RoundTrips}
 use Rattle.frame_round_trip.proofs.Numbers.{size-read}
 use Rattle.frame_round_trip.proofs.Maps.{All, Fine, located, behind, Stands, seek, map-whole, map-entries, found}
 use Rattle.frames.proofs.Pairs.{pairs-few}
-use Rattle.frame_round_trip.proofs.Items.{never, both, itemKeys, narrow, Ready, ready, tabled, pairs-fine, distinct-located, seek-pairs, again, Backs, number-back, backs, reread, reread-back, suited-back, present-stands}
+use Rattle.frame_round_trip.proofs.Items.{never, both, itemKeys, narrow, Ready, ready, tabled, pairs-fine, distinct-located, seek-pairs, again, Backs, number-back, backs, reread, reread-back, suitedItems, suited-back, present-stands}
 
 -- ---- from bytes to maps
 
@@ -82,8 +82,8 @@ record Accepted (c : ℕ) (hs bs : List Item) (ks : List ℕ) : Type 0 where
   known : required c ≡ some ks
   needed : all (λ (k : ℕ). isSome (encoded (locate bs k))) ks ≡ true
   short : length (contents hs bs) ≤ maxSize
-  head-known : (s : Bytes) (f : ℕ → Place) → suited headerKeys s f ≡ suited hs s f
-  body-known : (s : Bytes) (g : ℕ → Place) → suited bodyKeys s g ≡ suited bs s g
+  head-known : (s : Bytes) (f : ℕ → Place) → suited headerTable s f ≡ suitedItems hs s f
+  body-known : (s : Bytes) (g : ℕ → Place) → suited bodyTable s g ≡ suitedItems bs s g
 
 module _ (c : ℕ) (hs bs : List Item) (ks : List ℕ) (ok : Accepted c hs bs ks) where
   a : Bytes
@@ -258,11 +258,11 @@ body-tabled : (r : Frame) (s : Bytes) → tabled (bodyItems r s) ≡ true
 unfolding tabled bodyItems itemKeys distinct has all narrow
 body-tabled r s = refl
 
-head-same : (r : Frame) (s : Bytes) (f : ℕ → Place) → suited headerKeys s f ≡ suited (headerItems r) s f
+head-same : (r : Frame) (s : Bytes) (f : ℕ → Place) → suited headerTable s f ≡ suitedItems (headerItems r) s f
 unfolding suited headerItems all
 head-same r s f = refl
 
-body-same : (r : Frame) (b s : Bytes) (g : ℕ → Place) → suited bodyKeys s g ≡ suited (bodyItems r b) s g
+body-same : (r : Frame) (b s : Bytes) (g : ℕ → Place) → suited bodyTable s g ≡ suitedItems (bodyItems r b) s g
 unfolding suited bodyItems all
 body-same r b s g = refl
 
