@@ -1,9 +1,9 @@
 // What a known key must hold, and what a code requires: the two judgements that reading and writing share.
 use frames::Line;
-use frames::Rule;
 use frames::MAX_32;
 use frames::MAX_64;
 use frames::MAX_BASE;
+use frames::Rule;
 use msgpack_scalars::Header;
 use msgpack_scalars::Natural;
 use msgpack_scalars::Opening;

@@ -1,7 +1,7 @@
 // Whether the known keys of a header and of a body hold what they must.
-use frames::Rule;
 use frames::HEADER_KEYS;
 use frames::KNOWN_KEYS;
+use frames::Rule;
 ghost use mathlib.Core.Path.{_≡_};
 ghost use Prim.Native.Nat.{_≤_};
 ghost use lib.Seq.{slice};

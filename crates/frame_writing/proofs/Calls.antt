@@ -49,6 +49,12 @@ pub record Judged (r : Frame) (s : Bytes) (needs : List ℕ) (b4 b9 b10 : Bool) 
   pub size : n ≡ capped (length (contentsOf r s))
 
 module _ {r : Frame} {s : Bytes} (old : Bytes) {needs : List ℕ} {b4 b9 b10 : Bool} {n : ℕ} (j : Judged r s needs b4 b9 b10 n) where
+  pub sized : n ≤ maxSize → n ≡ length (contentsOf r s)
+  sized h = let z = j .size in z ∙ capped-within _ (omega arith)
+
+  pub room : n ≤ maxSize → n + 5 ≤ length old → length (frameForm (contentsOf r s)) ≤ length old
+  room h k = let z = sized h in let f = form-long (contentsOf r s) in omega arith
+
   pub call-4 : b4 ≡ false → unwritten 4 old ≡ frameWriteCall r s old
   unfolding frameWriteCall frameWrite writeItems given check callOf
   call-4 e4 = rw (j .known, ← (j .four), e4)
@@ -70,36 +76,22 @@ module _ {r : Frame} {s : Bytes} (old : Bytes) {needs : List ℕ} {b4 b9 b10 : B
         rw (j .known, ← (j .four), e4, ← (j .nine), e9, ← (j .ten), e10, lt-leb (length (contentsOf r s)) maxSize k)
 
     module _ (e10 : b10 ≡ true) (h : n ≤ maxSize) where
-      pub sized : n ≡ length (contentsOf r s)
-      sized = let z = j .size in z ∙ capped-within _ (omega arith)
-
       pub call-18 : length old < n + 5 → unwritten 18 old ≡ frameWriteCall r s old
       unfolding frameWriteCall frameWrite writeItems given check callOf
       call-18 k =
-          let z = sized in
+          let z = sized h in
           let f = form-long (contentsOf r s) in
-          rw (
-            j .known, ← (j .four), e4, ← (j .nine), e9, ← (j .ten), e10,
-            le-leb (length (contentsOf r s)) maxSize (omega arith),
-            lt-leb (length (frameForm (contentsOf r s))) (length old) (omega arith),
-          )
-
-      pub room : n + 5 ≤ length old → length (frameForm (contentsOf r s)) ≤ length old
-      room k = let z = sized in let f = form-long (contentsOf r s) in omega arith
+          rw (j .known, ← (j .four), e4, ← (j .nine), e9, ← (j .ten), e10, le-leb (length (contentsOf r s)) maxSize (omega arith), lt-leb (length (frameForm (contentsOf r s))) (length old) (omega arith))
 
       pub call-0 : n + 5 ≤ length old → {m : ℕ} {cur : Bytes} → (m ≡ next 0 (frameForm (contentsOf r s)) old) × (cur ≡ put 0 (frameForm (contentsOf r s)) old)
           → _≡_ {A = Call} (record { number = 0; length = m; buffer = cur }) (frameWriteCall r s old)
       unfolding frameWriteCall frameWrite writeItems given check callOf
       call-0 k {m} {cur} e =
-          let z = sized in
+          let z = sized h in
           let f = frameForm (contentsOf r s) in
-          let g = room k in
+          let g = room h k in
           let w = wrote old 0 f e (omega arith) in
           let y : 0 + length f ≡ length f = omega arith in
           let em : m ≡ length f = omega arith in
           let ec : cur ≡ f ++ drop (length f) old = rw y at (w .is) in
-          rw (
-            j .known, ← (j .four), e4, ← (j .nine), e9, ← (j .ten), e10,
-            le-leb (length (contentsOf r s)) maxSize (omega arith),
-            le-leb (length f) (length old) g, em, ec,
-          )
+          rw (j .known, ← (j .four), e4, ← (j .nine), e9, ← (j .ten), e10, le-leb (length (contentsOf r s)) maxSize (omega arith), le-leb (length f) (length old) g, em, ec)

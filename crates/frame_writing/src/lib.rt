@@ -1,10 +1,10 @@
 // Writing a frame: every refusal before the first byte, then each piece into the rest of the lent buffer.
 use frame_items::Content;
 use frames::Frame;
-use frames::Written;
 use frames::HEADER_KEYS;
 use frames::KNOWN_KEYS;
 use frames::MAX_SIZE;
+use frames::Written;
 ghost use mathlib.Core.Path.{_≡_};
 ghost use mathlib.Core.List.{_∷_};
 ghost use Prim.Native.Nat.{_+_, _≤_};

@@ -68,17 +68,11 @@ returns-6 c =
 
 put-frame-requires : tie.Need-put-frame-requires
 put-frame-requires c κs =
-    let f = c .before .before .before in
-    let t = f .before .before in
-    let l = t .before .before .before .before .before in
-    let e2 = not-false _ (t .if2 .left) in
-    let e3 = not-false _ (f .before .if3 .left) in
-    let e4 = not-false _ (f .if4 .left) in
+    let l = c .before .before .before .before .before .before .before .before .before .before in
     let b = l .before .before .before .before in
     let out = asking l .before .before .before .args .out .now in
-    ((sized out (facts l) e2 e3 e4 (c .before .before .if5 .left),
-    (ap (λ (j : Judgement). j .count) (b .before .header-judged .ensures), ap (λ (j : Judgement). j .count) (b .body-judged .ensures))),
-    room out (facts l) e2 e3 e4 (c .before .before .if5 .left) (c .before .if6 .left))
+    let h = c .before .before .if5 .left in
+    ((sized out (facts l) h, (ap (λ (j : Judgement). j .count) (b .before .header-judged .ensures), ap (λ (j : Judgement). j .count) (b .body-judged .ensures))), room out (facts l) h (c .before .if6 .left))
 
 returns-7 : tie.Need-returns-7
 returns-7 c =
