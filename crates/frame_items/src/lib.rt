@@ -4,7 +4,6 @@ use frames::Rule;
 use msgpack_values::Read;
 ghost use mathlib.Core.Path.{_≡_};
 ghost use Prim.Native.Nat.{_+_};
-ghost use lib.ListN.{length};
 ghost use Rattle.frames.specs.Held.{number, bytes as encoding, suits, encoded};
 ghost use Rattle.frames.specs.Writing.{sound};
 ghost use Rattle.frame_items.specs.Content.{heldOf, isWritten, pairLength, capped};

@@ -10,7 +10,6 @@ use borrow.Author.Tests.{le-leb, lt-leb, ne-eqb}
 use lib.Dec.{leb}
 use lib.ListN.{length, take, length-append, List·getD-eq-default}
 use lib.Seq.{take-append-seam}
-use Rattle.frames.specs.declared.Line.{Line}
 use Rattle.frames.specs.Codes.{codes, among, isError, required}
 use Rattle.frames.specs.Keys.{allLines}
 use Rattle.frames.specs.Limits.{knownKeys}

@@ -6,11 +6,9 @@ use mathlib.Core.Option.{Option, none, some}
 use lib.Dec.{leb, eqb}
 use lib.ListN.{length, take, drop}
 use Rattle.msgpack_first_bytes.specs.Bytes.{Bytes, pick}
-use Rattle.msgpack_first_bytes.specs.declared.Form.{Form}
 use Rattle.msgpack_scalars.specs.Start.{stringBy, arrayBy}
 use Rattle.msgpack_scalars.specs.Integer.{unsigned}
 use Rattle.msgpack_scalars.specs.Header.{header}
-use Rattle.msgpack_scalars.specs.declared.Start.{Start}
 use Rattle.msgpack_scalars.specs.declared.Natural.{Natural}
 use Rattle.msgpack_scalars.specs.declared.Natural.the-variants.{Is, Cut, Other}
 use Rattle.msgpack_scalars.specs.declared.Header.{Header}

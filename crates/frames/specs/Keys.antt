@@ -1,6 +1,6 @@
 -- The known keys: document 01's tables, and how a record holds what they list.
 use Prim.Native.Nat.{ℕ}
-use mathlib.Core.Bool.{Bool, true, false}
+use mathlib.Core.Bool.{true, false}
 use mathlib.Core.List.{List, [], _∷_, _++_}
 use mathlib.Core.Option.{Option, none, some}
 use mathlib.Core.Path.{_≡_, refl}
@@ -86,6 +86,10 @@ headerItems r = withHeld headerTable (headerFields number numberHeld r)
 
 unfoldable pub bodyItems : Frame → Bytes → List Item
 bodyItems r s = withHeld bodyTable (bodyFields numberHeld (placeHeld s) r)
+
+filled : (r : Frame) (s : Bytes) → (length (headerItems r) ≡ headerKeys) × (length (headerItems r ++ bodyItems r s) ≡ knownKeys)
+unfolding headerItems bodyItems
+filled r s = (refl, refl)
 
 unfoldable pub optional : Option ℕ → OptionalNumber
 optional none = record { present = false; value = 0 }

@@ -1,11 +1,11 @@
 -- Writing a frame. "In writing: 8, 4 (a place that is outside its bytes, not one whole value, or deeper than 15), 9, 10, 3, 18."
-use Prim.Native.Nat.{ℕ, _+_, _*_}
+use Prim.Native.Nat.{ℕ, _+_}
 use mathlib.Core.Bool.{Bool, true, false, _&&_}
 use mathlib.Core.List.{List, [], _∷_, _++_}
 use mathlib.Core.Option.{Option, none, some}
 use lib.Dec.{leb, eqb}
-use lib.ListN.{length, take, drop}
-use Rattle.msgpack_first_bytes.specs.Bytes.{Bytes, pick}
+use lib.ListN.{length, drop}
+use Rattle.msgpack_first_bytes.specs.Bytes.{Bytes}
 use Rattle.msgpack_values.specs.Value.{value}
 use Rattle.msgpack_values.specs.Pieces.{joined}
 use Rattle.msgpack_values.specs.declared.Read.{Read}

@@ -8,8 +8,10 @@ use Rattle.frame_keys.proofs.content_of.Tie as tie
 
 pub content-of-spec : {M : Type 1} → statement M
 content-of-spec =
-    tie.close (tie.spec (λ c κs. search needs) (λ c κs. search needs) (λ c κs. search needs) (λ c κs. search needs) (λ c κs. search needs) (λ c κs. search needs) (λ c κs. search needs) (λ c κs. search needs) (λ c κs. search needs) (λ c κs. search needs) (λ c κs. search needs) (λ c κs. search needs) (λ c κs. search needs) (λ c κs. search needs) (λ c κs. search needs) (λ c κs. search needs)
-    (λ c. unfold contentAt in rw (c .match .keys1))
+    tie.close (tie.spec (λ c κs. search needs) (λ c κs. search needs) (λ c κs. search needs) (λ c κs. search needs)
+    (λ c κs. search needs) (λ c κs. search needs) (λ c κs. search needs) (λ c κs. search needs) (λ c κs. search needs)
+    (λ c κs. search needs) (λ c κs. search needs) (λ c κs. search needs) (λ c κs. search needs) (λ c κs. search needs)
+    (λ c κs. search needs) (λ c κs. search needs) (λ c. unfold contentAt in rw (c .match .keys1))
     (λ c. unfold contentAt in rw (c .before .match .keys2) (c .number-content .ensures))
     (λ c. unfold contentAt in rw (c .before .match .keys3) (c .number-content2 .ensures))
     (λ c. unfold contentAt in rw (c .before .match .keys4) (c .number-content3 .ensures))

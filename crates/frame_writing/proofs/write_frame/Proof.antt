@@ -1,7 +1,6 @@
 -- Each refusal in its order, then the bytes. Assumes nothing.
-use mathlib.Core.Path.{_≡_, sym, ap, _∙_}
+use mathlib.Core.Path.{sym, ap, _∙_}
 use mathlib.Core.Bool.{_&&_}
-use native.Mathlib.Omega.{arith}
 use borrow.Author.Needs.{needs}
 use borrow.Author.Tests.{not-true, not-false}
 use lib.ListN.{take}
@@ -85,7 +84,8 @@ pub write-frame-spec : {M : Type 1} → statement M
 write-frame-spec =
     tie.close (tie.spec (λ c κs. search needs) (λ c κs. search needs)
     (λ c. rw (c .refused .ensures) (call-8 _ _ _ (code-unknown _ (c .before .before .before .needs-of .ensures) (not-true _ (c .before .if1 .taken)))))
-    (λ c κs. search needs) (λ c κs. search needs) (λ c. keys-fit _ (c .before .before .before .before .before .needs-of .ensures))
+    (λ c κs. search needs) (λ c κs. search needs)
+    (λ c. keys-fit _ (c .before .before .before .before .before .needs-of .ensures))
     (λ c. sym (length-take-le _ _ (keys-fit _ (c .before .before .before .before .before .before .needs-of .ensures))))
     (λ c κs. search needs) (λ c κs. search needs) (λ c κs. search needs) returns-2 (λ c κs. search needs) returns-3
     (λ c κs. search needs) returns-4 (λ c κs. search needs) returns-5 (λ c. search needs) (λ c κs. search needs) returns-6
