@@ -6,7 +6,7 @@ use msgpack_scalars::Natural;
 ghost use mathlib.Core.Path.{_≡_};
 ghost use Prim.Native.Nat.{ℕ};
 ghost use Rattle.msgpack_scalars.specs.Integer.{unsigned};
-ghost use Rattle.frames.specs.Held.{all, view, natural, numberIn};
+ghost use Rattle.frames.specs.Held.{all, view, asNumber, numberIn};
 ghost use Rattle.frames.specs.Keys.{optional, frameAt};
 ghost use Rattle.frame_tables.specs.Tables.{placeIn};
 
@@ -26,7 +26,7 @@ pub fn view_of(s: &[u8], place: Place) -> &[u8]
 }
 
 fn number_of(v: &[u8]) -> OptionalNumber
-    ensures { λ r. ⌜ r ≡ optional (natural (unsigned (now (v .entry)))) ⌝ }
+    ensures { λ r. ⌜ r ≡ optional (asNumber (unsigned (now (v .entry)))) ⌝ }
 {
     match msgpack_scalars::unsigned_at(v, 0) {
         Natural::Is(n, _) => OptionalNumber {

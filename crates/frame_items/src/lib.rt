@@ -4,7 +4,6 @@ use frames::Rule;
 use msgpack_values::Read;
 ghost use mathlib.Core.Path.{_≡_};
 ghost use Prim.Native.Nat.{_+_};
-ghost use lib.ListN.{length};
 ghost use Rattle.frames.specs.Held.{number, bytes as encoding, suits, encoded};
 ghost use Rattle.frames.specs.Writing.{sound};
 ghost use Rattle.frame_items.specs.Content.{heldOf, isWritten, pairLength, capped};
@@ -27,7 +26,7 @@ pub struct KnownKey {
 fn view_sound(v: &[u8]) -> bool
     ensures { λ r. ⌜ r ≡ sound (encoding (now (v .entry))) ⌝ }
 {
-    match msgpack_values::read_value(v, 0, 15) {
+    match msgpack_values::read_value(v, 0, frames::HELD_DEPTH) {
         Read::Whole(end) => end == v.len(),
         Read::Broken(_) => false,
     }
@@ -93,13 +92,13 @@ pub fn is_written(content: Content) -> bool
 fn with_key(n: usize) -> usize
     ensures { λ r. ⌜ r ≡ capped (n + 1) ⌝ }
 {
-    if n < 60_000 {
+    if n < frames::MAX_SIZE {
         return n + 1;
     }
-    60_001
+    frames::MAX_SIZE + 1
 }
 
-// How many bytes a key and what it holds take, counted up to 60,001.
+// How many bytes a key and what it holds take, counted up to one more than a frame has.
 pub fn pair_length(bytes: &[u8], content: Content) -> usize
     ensures { λ r. ⌜ r ≡ capped (pairLength (encoded (heldOf (now (bytes .entry)) content))) ⌝ }
 {

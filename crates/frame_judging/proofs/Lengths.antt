@@ -11,28 +11,29 @@ use Rattle.msgpack_values.specs.Pieces.{joined}
 use Rattle.msgpack_writing.specs.Forms.{mapHeader}
 use Rattle.msgpack_first_bytes.proofs.Logic.{either}
 use Rattle.frames.specs.declared.Frame.{Frame}
+use Rattle.frames.specs.Limits.{maxSize}
 use Rattle.frames.specs.Held.{Item, encoded}
 use Rattle.frames.specs.Keys.{headerItems, bodyItems}
 use Rattle.frames.specs.Writing.{pairs, flat, mapForm, contents}
 use Rattle.frame_items.specs.Content.{heldOf, itemOf, pairLength, capped}
 use Rattle.frame_items.specs.declared.KnownKey.{KnownKey}
 use Rattle.frame_items.proofs.Laws.{capped-low, capped-high}
-use Rattle.frame_judging.specs.Parts.{itemsBetween, pairOf, pairBytes}
+use Rattle.frame_judging.specs.Parts.{pairOf, pairBytes}
 use Rattle.frames.proofs.Pairs.{pairs-few}
-use Rattle.frame_judging.proofs.Runs.{pair-first, pair-long, header-run, body-run}
+use Rattle.frame_judging.proofs.Runs.{pair-first, pair-long}
 
 -- as the smaller of two numbers, which arithmetic knows
-counted : (n : ℕ) → capped n ≡ min n 60001
-counted n = ⊎-elim (λ h. sym (capped-low n h) ∙ omega arith) (λ h. sym (capped-high n h) ∙ omega arith) (either n 60000)
+counted : (n : ℕ) → capped n ≡ min n (maxSize + 1)
+counted n = ⊎-elim (λ h. sym (capped-low n h) ∙ omega arith) (λ h. sym (capped-high n h) ∙ omega arith) (either n maxSize)
 
-pub capped-few : (n : ℕ) → capped n ≤ 60001
+pub capped-few : (n : ℕ) → capped n ≤ maxSize + 1
 capped-few n = let c = counted n in omega arith
 
 -- what a count within a frame says, and one past it
-pub capped-within : (n : ℕ) → capped n ≤ 60000 → capped n ≡ n
+pub capped-within : (n : ℕ) → capped n ≤ maxSize → capped n ≡ n
 capped-within n h = let c = counted n in omega arith
 
-pub capped-past : (n : ℕ) → 60000 < capped n → 60000 < n
+pub capped-past : (n : ℕ) → maxSize < capped n → maxSize < n
 capped-past n h = let c = counted n in omega arith
 
 -- a turn of the counting loop
@@ -54,7 +55,7 @@ module _ (s : Bytes) (k : KnownKey) {xs rest : List Item} (e : xs ≡ itemOf s k
       in
       rw (et, ep, l) (count-turn total (pairLength o) (length (pairBytes rest)))
 
-pub all-counted : (total : ℕ) {xs : List Item} → xs ≡ [] → total ≤ 60001 → total ≡ capped (total + length (pairBytes xs))
+pub all-counted : (total : ℕ) {xs : List Item} → xs ≡ [] → total ≤ maxSize + 1 → total ≡ capped (total + length (pairBytes xs))
 unfolding pairBytes pairs flat joined
 all-counted total e h = rw e (let c = counted (total + 0) in omega arith)
 
@@ -65,19 +66,18 @@ unfolding mapForm mapHeader pairBytes
 map-long xs h = let k = pairs-few xs in rw (lt-ltb (length (pairs xs)) 16 (omega arith)) (omega arith)
 
 module _ (r : Frame) (s : Bytes) where
-  contents-long : length (contents (headerItems r) (bodyItems r s))
-      ≡ length (pairBytes (itemsBetween 0 3 r s)) + length (pairBytes (itemsBetween 3 17 r s)) + 2
+  contents-long : length (contents (headerItems r) (bodyItems r s)) ≡ length (pairBytes (headerItems r)) + length (pairBytes (bodyItems r s)) + 2
   unfolding contents headerItems bodyItems
   contents-long =
       let h = map-long (headerItems r) (omega arith) in
       let b = map-long (bodyItems r s) (omega arith) in
-      rw (header-run r s, body-run r s) (length-append (mapForm (pairs (headerItems r))) (mapForm (pairs (bodyItems r s))) ∙ omega arith)
+      length-append (mapForm (pairs (headerItems r))) (mapForm (pairs (bodyItems r s))) ∙ omega arith
 
-  pub contents-counted : {h b : ℕ} → h ≡ capped (length (pairBytes (itemsBetween 0 3 r s))) → b ≡ capped (length (pairBytes (itemsBetween 3 17 r s)))
+  pub contents-counted : {h b : ℕ} → h ≡ capped (length (pairBytes (headerItems r))) → b ≡ capped (length (pairBytes (bodyItems r s)))
       → capped (capped (h + b) + 2) ≡ capped (length (contents (headerItems r) (bodyItems r s)))
   contents-counted {h} {b} eh eb =
-      let x = counted (length (pairBytes (itemsBetween 0 3 r s))) in
-      let y = counted (length (pairBytes (itemsBetween 3 17 r s))) in
+      let x = counted (length (pairBytes (headerItems r))) in
+      let y = counted (length (pairBytes (bodyItems r s))) in
       let z = contents-long in
       let u = counted (h + b) in
       let v = counted (capped (h + b) + 2) in

@@ -6,13 +6,14 @@ use Prim.Native.Nat.{ℕ, _+_, _≤_}
 use native.Mathlib.Omega.{arith}
 use lib.ListN.{length}
 use Rattle.msgpack_first_bytes.specs.Bytes.{Bytes, pick}
+use Rattle.frames.specs.Limits.{maxSize}
 use Rattle.frames.specs.Held.{all, suits, encoded, Item}
 use Rattle.frames.specs.Writing.{sound, pairs}
 use Rattle.frame_items.specs.Content.{heldOf, itemOf, isWritten, pairLength, capped}
 use Rattle.frame_items.specs.declared.KnownKey.{KnownKey}
 use Rattle.frame_judging.specs.Parts.{pairBytes}
-use Rattle.frame_judging.specs.Judged.{Judged}
-use Rattle.frame_judging.proofs.Runs.{one-more, no-more}
+use Rattle.frame_judging.specs.Judged.{judgementOf}
+use Rattle.frame_judging.proofs.Runs.{pair-more}
 use Rattle.frame_judging.proofs.Lengths.{capped-few, pair-counted, all-counted}
 
 and-assoc : (a b c : Bool) → (a && (b && c)) ≡ ((a && b) && c)
@@ -28,7 +29,7 @@ pub record Left (zs xs : List Item) (a b : Bool) (n t : ℕ) : Type 0 where
   pub four : (a && all (λ (x : Item). sound (x .held)) xs) ≡ all (λ (x : Item). sound (x .held)) zs
   pub nine : (b && all (λ (x : Item). suits (x .rule) (x .held)) xs) ≡ all (λ (x : Item). suits (x .rule) (x .held)) zs
   pub many : n + length (pairs xs) ≡ length (pairs zs)
-  pub few : t ≤ 60001
+  pub few : t ≤ maxSize + 1
   pub long : capped (t + length (pairBytes xs)) ≡ capped (length (pairBytes zs))
 
 pub none-yet : (zs : List Item) → Left zs zs true true 0 0
@@ -39,13 +40,6 @@ module _ (s : Bytes) (k : KnownKey) {xs rest : List Item} (e : xs ≡ itemOf s k
   unfolding all
   all-turn p a q h = rw q (sym (and-assoc a (p (itemOf s k)) (all p rest)) ∙ (rw e at h))
 
-  count-turn : (n : ℕ) {m : ℕ} → m ≡ pick (isWritten (k .content)) 1 0 → n + m + length (pairs rest) ≡ n + length (pairs xs)
-  count-turn n {m} h = go (isWritten (k .content)) refl h
-    where
-      go : (w : Bool) → isWritten (k .content) ≡ w → m ≡ pick w 1 0 → n + m + length (pairs rest) ≡ n + length (pairs xs)
-      go true q h = let l = one-more s k e q in omega arith
-      go false q h = let l = no-more s k e q in omega arith
-
   pub next-turn : {zs : List Item} {a b v w : Bool} {n m t p u : ℕ} → Left zs xs a b n t
       → v ≡ sound (heldOf s (k .content)) → w ≡ suits (k .rule) (heldOf s (k .content)) → m ≡ pick (isWritten (k .content)) 1 0
       → p ≡ capped (pairLength (encoded (heldOf s (k .content)))) → u ≡ capped (t + p)
@@ -55,18 +49,18 @@ module _ (s : Bytes) (k : KnownKey) {xs rest : List Item} (e : xs ≡ itemOf s k
       record {
         four = all-turn (λ (x : Item). sound (x .held)) a ev (l .four);
         nine = all-turn (λ (x : Item). suits (x .rule) (x .held)) b ew (l .nine);
-        many = count-turn n em ∙ l .many;
+        many = let q = pair-more s k e in let y = l .many in omega arith;
         few = rw eu (capped-few _);
         long = pair-counted s k e t ep eu ∙ l .long;
       }
 
 pub none-left : {zs xs : List Item} {a b : Bool} {n t : ℕ} → Left zs xs a b n t → xs ≡ []
-    → Judged zs (record { sound = a; suited = b; count = n; length = t })
+    → record { sound = a; suited = b; count = n; length = t } ≡ judgementOf zs
 unfolding all pairs
-none-left {a = a} {b = b} {n = n} {t = t} l e =
-    record {
-      four = sym (and-true a) ∙ (rw e at (l .four));
-      nine = sym (and-true b) ∙ (rw e at (l .nine));
-      many = let q = rw e at (l .many) in omega arith;
-      long = all-counted t e (l .few) ∙ l .long;
-    }
+none-left {zs} {a = a} {b = b} {n = n} {t = t} l e =
+    let four = sym (and-true a) ∙ (rw e at (l .four)) in
+    let nine = sym (and-true b) ∙ (rw e at (l .nine)) in
+    let q = rw e at (l .many) in
+    let many : n ≡ length (pairs zs) = omega arith in
+    let long = all-counted t e (l .few) ∙ l .long in
+    λ i. record { sound = four i; suited = nine i; count = many i; length = long i }

@@ -1,4 +1,4 @@
--- A run of the record's items, and the bytes of its pairs.
+-- Inner: a run of the record's items, and the bytes of its pairs.
 use Prim.Native.Nat.{ℕ}
 use mathlib.Core.List.{List, [], _∷_}
 use mathlib.Core.Option.{Option, none, some}

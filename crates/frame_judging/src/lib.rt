@@ -1,17 +1,21 @@
 // What the writer refuses, judged over a record: its values, their types, its required keys, its length.
 use frame_items::Content;
 use frames::Frame;
+use frames::HEADER_KEYS;
+use frames::KNOWN_KEYS;
+use frames::MAX_SIZE;
 ghost use mathlib.Core.Path.{_≡_};
 ghost use Prim.Native.Nat.{ℕ, _+_, _≤_};
 ghost use Rattle.msgpack_first_bytes.specs.Bytes.{pick};
-ghost use Rattle.frames.specs.Held.{all, encoded, present, locate};
-ghost use Rattle.frames.specs.Keys.{bodyItems};
+ghost use Rattle.frames.specs.Held.{all, encoded, isSome, locate};
+ghost use Rattle.frames.specs.Keys.{headerItems, bodyItems};
+ghost use Rattle.frames.specs.Limits.{knownKeys};
 ghost use Rattle.frame_items.specs.Content.{isWritten, capped};
 ghost use Rattle.frame_judging.specs.Parts.{itemsBetween};
-ghost use Rattle.frame_judging.specs.Judged.{Judged};
+ghost use Rattle.frame_judging.specs.Judged.{judgementOf};
 
 // What the writer asks of a run of known keys: 4, 9, how many pairs it writes, and how long they
-// are together, counted up to 60,001.
+// are together, counted up to one more than a frame has.
 pub struct Judgement {
     pub sound: bool,
     pub suited: bool,
@@ -21,10 +25,10 @@ pub struct Judgement {
 
 // Whether the body holds a key.
 fn holds(frame: Frame, bytes: &[u8], key: usize) -> bool
-    ensures { λ r. ⌜ r ≡ present (encoded (locate (bodyItems frame (now (bytes .entry))) key)) ⌝ }
+    ensures { λ r. ⌜ r ≡ isSome (encoded (locate (bodyItems frame (now (bytes .entry))) key)) ⌝ }
 {
-    let mut i: usize = 3;
-    while i < 17 {
+    let mut i: usize = HEADER_KEYS;
+    while i < KNOWN_KEYS {
         let known = frame_keys::known_key(frame, bytes, i);
         let content = known.content;
         if key == known.key as usize {
@@ -37,7 +41,7 @@ fn holds(frame: Frame, bytes: &[u8], key: usize) -> bool
 
 // 10
 pub fn holds_all(frame: Frame, bytes: &[u8], keys: &[usize]) -> bool
-    ensures { λ r. ⌜ r ≡ all (λ (k : ℕ). present (encoded (locate (bodyItems frame (now (bytes .entry))) k))) (now (keys .entry)) ⌝ }
+    ensures { λ r. ⌜ r ≡ all (λ (k : ℕ). isSome (encoded (locate (bodyItems frame (now (bytes .entry))) k))) (now (keys .entry)) ⌝ }
 {
     let mut i: usize = 0;
     while i < keys.len() {
@@ -52,11 +56,11 @@ pub fn holds_all(frame: Frame, bytes: &[u8], keys: &[usize]) -> bool
 fn capped_sum(a: usize, b: usize) -> usize
     ensures { λ r. ⌜ r ≡ capped (a + b) ⌝ }
 {
-    if 60_000 < a {
-        return 60_001;
+    if MAX_SIZE < a {
+        return MAX_SIZE + 1;
     }
-    if 60_000 - a < b {
-        return 60_001;
+    if MAX_SIZE - a < b {
+        return MAX_SIZE + 1;
     }
     a + b
 }
@@ -73,8 +77,8 @@ fn pairs_of(content: Content) -> u32
 
 // The keys from one on and up to another. One pass, since looking a key up takes longest.
 fn judged(frame: Frame, bytes: &[u8], from: usize, to: usize) -> Judgement
-    requires { ⌜ (from ≤ to) × (to ≤ 17) ⌝ }
-    ensures { λ r. ⌜ Judged (itemsBetween from to frame (now (bytes .entry))) r ⌝ }
+    requires { ⌜ (from ≤ to) × (to ≤ knownKeys) ⌝ }
+    ensures { λ r. ⌜ r ≡ judgementOf (itemsBetween from to frame (now (bytes .entry))) ⌝ }
 {
     let mut sound = true;
     let mut suited = true;
@@ -100,15 +104,15 @@ fn judged(frame: Frame, bytes: &[u8], from: usize, to: usize) -> Judgement
 }
 
 pub fn header_judged(frame: Frame, bytes: &[u8]) -> Judgement
-    ensures { λ r. ⌜ Judged (itemsBetween 0 3 frame (now (bytes .entry))) r ⌝ }
+    ensures { λ r. ⌜ r ≡ judgementOf (headerItems frame) ⌝ }
 {
-    judged(frame, bytes, 0, 3)
+    judged(frame, bytes, 0, HEADER_KEYS)
 }
 
 pub fn body_judged(frame: Frame, bytes: &[u8]) -> Judgement
-    ensures { λ r. ⌜ Judged (itemsBetween 3 17 frame (now (bytes .entry))) r ⌝ }
+    ensures { λ r. ⌜ r ≡ judgementOf (bodyItems frame (now (bytes .entry))) ⌝ }
 {
-    judged(frame, bytes, 3, 17)
+    judged(frame, bytes, HEADER_KEYS, KNOWN_KEYS)
 }
 
 // How long header and body are, each with a header of one byte.

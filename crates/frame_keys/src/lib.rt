@@ -4,32 +4,21 @@ use frame_items::KnownKey;
 use frames::Frame;
 use frames::OptionalNumber;
 use frames::Place;
-use frames::Rule;
 ghost use mathlib.Core.Path.{_≡_};
-ghost use lib.ListN.{getD};
-ghost use Rattle.frames.specs.Held.{placeHeld, item};
-ghost use Rattle.frame_items.specs.Content.{heldOf, itemOf, allItems, blank, numberKey};
+ghost use Rattle.frame_items.specs.Content.{numberContent, placeContent, contentAt, knownKeyAt};
 
-fn number_key(key: u8, limit: u64, n: OptionalNumber) -> KnownKey
-    ensures { λ r. ⌜ r ≡ numberKey key limit n ⌝ }
+fn number_content(n: OptionalNumber) -> Content
+    ensures { λ r. ⌜ r ≡ numberContent n ⌝ }
 {
     if n.present {
-        return KnownKey {
-            key,
-            rule: Rule::AtMost(limit),
-            content: Content::Number(n.value),
-        };
+        return Content::Number(n.value);
     }
-    KnownKey {
-        key,
-        rule: Rule::AtMost(limit),
-        content: Content::Absent,
-    }
+    Content::Absent
 }
 
 // The tests subtract, since a sum of start and length could wrap.
 fn place_content(bytes: &[u8], place: Place) -> Content
-    ensures { λ r. ⌜ heldOf (now (bytes .entry)) r ≡ placeHeld (now (bytes .entry)) place ⌝ }
+    ensures { λ r. ⌜ r ≡ placeContent (now (bytes .entry)) place ⌝ }
 {
     let start = place.start;
     let length = place.length;
@@ -45,46 +34,41 @@ fn place_content(bytes: &[u8], place: Place) -> Content
     Content::View(place)
 }
 
-fn place_key(key: u8, rule: Rule, bytes: &[u8], place: Place) -> KnownKey
-    ensures { λ r. ⌜ itemOf (now (bytes .entry)) r ≡ item key rule (placeHeld (now (bytes .entry)) place) ⌝ }
+// What the i-th known key holds, in the order of document 01's tables; past the last nothing.
+fn content_of(frame: Frame, bytes: &[u8], i: usize) -> Content
+    ensures { λ r. ⌜ r ≡ contentAt frame (now (bytes .entry)) i ⌝ }
 {
-    KnownKey {
-        key,
-        rule,
-        content: place_content(bytes, place),
+    match i {
+        0 => Content::Number(frame.code),
+        1 => number_content(frame.sync),
+        2 => number_content(frame.schema_version),
+        3 => number_content(frame.space),
+        4 => number_content(frame.index),
+        5 => number_content(frame.limit),
+        6 => number_content(frame.offset),
+        7 => number_content(frame.iterator),
+        8 => number_content(frame.index_base),
+        9 => place_content(bytes, frame.key),
+        10 => place_content(bytes, frame.tuple),
+        11 => place_content(bytes, frame.function),
+        12 => place_content(bytes, frame.user),
+        13 => place_content(bytes, frame.expression),
+        14 => place_content(bytes, frame.ops),
+        15 => place_content(bytes, frame.data),
+        16 => place_content(bytes, frame.error),
+        _ => Content::Absent,
     }
 }
 
-// The i-th known key, 0 to 2 in the header and 3 to 16 in the body, each rising; past them nothing.
+// The i-th known key with what it must hold and what it holds; past the last, key 0 and nothing.
 pub fn known_key(frame: Frame, bytes: &[u8], i: usize) -> KnownKey
-    ensures { λ r. ⌜ itemOf (now (bytes .entry)) r ≡ getD (allItems frame (now (bytes .entry))) i blank ⌝ }
+    ensures { λ r. ⌜ r ≡ knownKeyAt frame (now (bytes .entry)) i ⌝ }
 {
-    let code = OptionalNumber {
-        present: true,
-        value: frame.code,
-    };
-    match i {
-        0 => number_key(0x00, 0xffff_ffff_ffff_ffff, code),
-        1 => number_key(0x01, 0xffff_ffff_ffff_ffff, frame.sync),
-        2 => number_key(0x05, 0xffff_ffff_ffff_ffff, frame.schema_version),
-        3 => number_key(0x10, 4_294_967_295, frame.space),
-        4 => number_key(0x11, 4_294_967_295, frame.index),
-        5 => number_key(0x12, 4_294_967_295, frame.limit),
-        6 => number_key(0x13, 4_294_967_295, frame.offset),
-        7 => number_key(0x14, 4_294_967_295, frame.iterator),
-        8 => number_key(0x15, 1, frame.index_base),
-        9 => place_key(0x20, Rule::Array, bytes, frame.key),
-        10 => place_key(0x21, Rule::Array, bytes, frame.tuple),
-        11 => place_key(0x22, Rule::String, bytes, frame.function),
-        12 => place_key(0x23, Rule::String, bytes, frame.user),
-        13 => place_key(0x27, Rule::String, bytes, frame.expression),
-        14 => place_key(0x28, Rule::Array, bytes, frame.ops),
-        15 => place_key(0x30, Rule::Anything, bytes, frame.data),
-        16 => place_key(0x31, Rule::String, bytes, frame.error),
-        _ => KnownKey {
-            key: 0,
-            rule: Rule::Anything,
-            content: Content::Absent,
-        },
+    let line = frame_rules::line_of(i);
+    let rule = line.rule;
+    KnownKey {
+        key: line.key,
+        rule,
+        content: content_of(frame, bytes, i),
     }
 }

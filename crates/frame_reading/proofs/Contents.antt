@@ -1,11 +1,10 @@
 -- 1 to 5: the size number, the header and the body. Assumes nothing.
-use mathlib.Core.Path.{_≡_, refl, sym, ap, _∙_}
+use mathlib.Core.Path.{_≡_, refl, sym, _∙_}
 use mathlib.Core.List.{[], _∷_}
 use mathlib.Core.Bool.{Bool, true, false, _&&_}
 use Prim.Native.Nat.{ℕ, suc, _+_, _-_, _<_, _≤_}
-use native.Mathlib.Nat.{zero-add}
 use native.Mathlib.Omega.{arith}
-use borrow.Author.Tests.{le-leb, lt-leb, eq-eqb, ne-eqb, leb-true, leb-false, ltb-true, ltb-false}
+use borrow.Author.Tests.{le-leb, lt-leb, eq-eqb, ne-eqb, leb-true, ltb-true, ltb-false}
 use lib.Dec.{leb, ltb, eqb}
 use lib.ListN.{length, take, drop, length-drop, drop-of-length-le}
 use lib.Seq.{drop-cons}
@@ -18,7 +17,7 @@ use Rattle.msgpack_first_bytes.specs.FirstByte.{formOf}
 use Rattle.msgpack_first_bytes.specs.declared.Kind.the-variants.{Unsigned}
 use Rattle.msgpack_first_bytes.proofs.Logic.{impossible}
 use Rattle.msgpack_scalars.specs.Start.{scalarOf}
-use Rattle.msgpack_scalars.specs.Integer.{dueIn, due, unsignedBy, unsigned, shiftNatural}
+use Rattle.msgpack_scalars.specs.Integer.{dueIn, due, unsignedBy, unsigned}
 use Rattle.msgpack_scalars.specs.declared.Start.{Start}
 use Rattle.msgpack_scalars.specs.declared.Start.the-variants.{Here, Elsewhere}
 use Rattle.msgpack_scalars.specs.declared.Due.the-variants.{More, Cut as CutDue}
@@ -30,6 +29,7 @@ use Rattle.frames.specs.Limits.{maxSize, maxDepth, heldDepth}
 use Rattle.frames.specs.Maps.{entriesAt}
 use Rattle.frames.specs.Cascade.{check, whole}
 use Rattle.frames.specs.Reading.{refuse, byEntries, bodyValue, bodyEntries, inFrame, sizeBy, sizeOf, bySize, frameRead}
+use Rattle.frames.proofs.Front.{impossible}
 use Rattle.frame_reading.specs.Steps.{bodyAt, entriesIn}
 use Rattle.frame_reading.specs.declared.Body.the-variants.{At, Missing}
 
@@ -128,43 +128,18 @@ module _ (s : Bytes) (at : ℕ) where
 
 -- ---- the size number
 
-module _ (s : Bytes) where
-  sized-by : (u : Natural) → u ≡ shiftNatural 0 (unsigned s) → sizeOf s ≡ sizeBy u
-  unfolding sizeOf
-  sized-by u e = ap sizeBy (sym (e ∙ same (unsigned s)))
-    where
-      same : (v : Natural) → shiftNatural 0 v ≡ v
-      same (Is n k) = rw zero-add
-      same Cut = refl
-      same Other = refl
+pub size-none : {n : ℕ} (k : ℕ) → n ≡ 0 → Refused 3 ≡ sizeBy (Is n k)
+unfolding sizeBy
+size-none k h = rw h
 
-  pub size-other : Other ≡ shiftNatural 0 (unsigned s) → Refused 2 ≡ sizeOf s
+module _ (n k : ℕ) where
+  pub size-large : maxSize < n → Refused 3 ≡ sizeBy (Is n k)
   unfolding sizeBy
-  size-other e = sym (sized-by Other e)
+  size-large h = rw (le-leb 1 n (omega arith), lt-leb n maxSize h)
 
-  pub size-cut : Cut ≡ shiftNatural 0 (unsigned s) → Refused 1 ≡ sizeOf s
+  pub size-is : (n ≡ 0 → ⊥) → n ≤ maxSize → Promises n k ≡ sizeBy (Is n k)
   unfolding sizeBy
-  size-cut e = sym (sized-by Cut e)
-
-  module _ (n k : ℕ) (e : Is n k ≡ shiftNatural 0 (unsigned s)) where
-    pub size-none : n ≡ 0 → Refused 3 ≡ sizeOf s
-    unfolding sizeBy
-    size-none h = sym (sized-by (Is n k) e ∙ rw h)
-
-    pub size-large : maxSize < n → Refused 3 ≡ sizeOf s
-    unfolding sizeBy
-    size-large h = sym (sized-by (Is n k) e ∙ rw (le-leb 1 n (omega arith), lt-leb n maxSize h))
-
-    pub size-is : (n ≡ 0 → ⊥) → n ≤ maxSize → Promises n k ≡ sizeOf s
-    unfolding sizeBy
-    size-is z h = sym (sized-by (Is n k) e ∙ rw (le-leb 1 n (positive n z), le-leb n maxSize h))
-      where
-        positive : (n : ℕ) → (n ≡ 0 → ⊥) → 1 ≤ n
-        positive n z = go (leb 1 n) refl
-          where
-            go : (b : Bool) → leb 1 n ≡ b → 1 ≤ n
-            go true q = leb-true 1 n q
-            go false q = absurd (z (let l = leb-false 1 n q in omega arith))
+  size-is z h = rw (le-leb 1 n (omega arith), le-leb n maxSize h)
 
 -- a number that was read is within the bytes
 number-inside : (s : Bytes) (n k : ℕ) → unsigned s ≡ Is n k → k ≤ length s

@@ -3,33 +3,28 @@ use mathlib.Core.Path.{_≡_, refl, sym, ap, ap₂, _∙_}
 use mathlib.Core.List.{List}
 use mathlib.Core.Bool.{Bool, true, false, _&&_, _||_}
 use mathlib.Core.Option.{Option, none, some}
-use Prim.Native.Nat.{ℕ, _-_}
-use native.Mathlib.Omega.{arith}
+use Prim.Native.Nat.{ℕ}
 use lib.Dec.{eqb}
-use lib.ListN.{length, take, replicate}
+use lib.ListN.{length, replicate}
 use Rattle.msgpack_first_bytes.specs.Bytes.{Bytes, pick}
 use Rattle.frames.specs.declared.OptionalNumber.{OptionalNumber}
 use Rattle.frames.specs.declared.Place.{Place}
 use Rattle.frames.specs.declared.Frame.{Frame}
 use Rattle.frames.specs.declared.FrameAnswer.{FrameAnswer}
 use Rattle.frames.specs.Held.{all}
-use Rattle.frames.specs.Keys.{optional, codeIn, frameAt, headerKeys, bodyKeys}
+use Rattle.frames.specs.Keys.{optional, codeIn, frameAt, headerTable, bodyTable}
 use Rattle.frames.specs.Codes.{required}
 use Rattle.frames.specs.Limits.{heldDepth}
 use Rattle.frames.specs.Maps.{Entry, entriesAt, keys, distinct}
 use Rattle.frames.specs.Cascade.{check, given}
 use Rattle.frames.specs.Reading.{refuse, accept, suited, byPlaces, byEntries}
+use Rattle.frames.proofs.Front.{impossible}
 use Rattle.frame_tables.specs.Tables.{Table, table, emptyTable, laidAll, tabledOn, tabled, placeIn}
 use Rattle.frame_tables.proofs.Entries.{AllFit, nil, all-fit}
 use Rattle.frame_tables.proofs.Found.{places-found, number-found, tabled-room}
-use Rattle.frame_rules.specs.declared.Needs.{Needs}
-use Rattle.frame_rules.specs.Needs.{needed}
 use Rattle.frame_reading.specs.Steps.{entriesIn}
 use Rattle.frame_reading.specs.declared.Body.{Body}
 use Rattle.frame_reading.specs.declared.Body.the-variants.{At, Missing}
-
-impossible : {A : Type 0} → _≡_ {A = ℕ} 0 1 → A
-impossible z = absurd (omega arith)
 
 differ : {A : Type 0} → true ≡ false → A
 differ e = impossible cc
@@ -46,47 +41,40 @@ unfolding optional
 code-there none n e h = differ (sym h ∙ ap (λ (x : OptionalNumber). x .present) e)
 code-there (some c) n e h = rw e
 
-pub needs-none : (n : Needs) (o : Option (List ℕ)) → needed n ≡ o → n .known ≡ false → o ≡ none
-unfolding needed
-needs-none n o e h = sym e ∙ rw h
-
-pub needs-some : (n : Needs) (o : Option (List ℕ)) → needed n ≡ o → n .known ≡ true → o ≡ some (take (n .count) (n .keys))
-unfolding needed
-needs-some n o e h = sym e ∙ rw h
-
-pub both-are : {a b x y v : Bool} → a ≡ x → b ≡ y → (a && b) ≡ v → (x && y) ≡ v
-both-are e q h = ap₂ _&&_ (sym e) (sym q) ∙ h
-
 -- ---- 8 to 10
 
-module _ (s : Bytes) (f g : ℕ → Place) where
-  pub no-code : codeIn s f ≡ none → refuse 8 ≡ byPlaces s f g
-  unfolding byPlaces given
-  no-code e = rw e
+pub no-code : (s : Bytes) (f g : ℕ → Place) → codeIn s f ≡ none → refuse 8 ≡ byPlaces s f g
+unfolding byPlaces given
+no-code s f g e = rw e
 
-  module _ (c : ℕ) (ec : codeIn s f ≡ some c) where
-    pub no-such-code : required c ≡ none → refuse 8 ≡ byPlaces s f g
-    unfolding byPlaces given
-    no-such-code e = rw (ec, e)
+pub no-such-code : (s : Bytes) (f g : ℕ → Place) (c : ℕ) → codeIn s f ≡ some c → required c ≡ none → refuse 8 ≡ byPlaces s f g
+unfolding byPlaces given
+no-such-code s f g c e h = rw (e, h)
 
-    module _ (ks : List ℕ) (ek : required c ≡ some ks) where
-      pub unsuited : (suited headerKeys s f && suited bodyKeys s g) ≡ false → refuse 9 ≡ byPlaces s f g
-      unfolding byPlaces given check
-      unsuited e = rw (ec, ek, e)
+-- a known code, and whether all keys hold what they must
+pub record Judged (s : Bytes) (f g : ℕ → Place) (c : ℕ) (ks : List ℕ) (b : Bool) : Type 0 where
+  pub coded : codeIn s f ≡ some c
+  pub known : required c ≡ some ks
+  pub nine : b ≡ (suited headerTable s f && suited bodyTable s g)
 
-      pub not-all-there : (suited headerKeys s f && suited bodyKeys s g) ≡ true → all (λ (k : ℕ). g k .present) ks ≡ false → refuse 10 ≡ byPlaces s f g
-      unfolding byPlaces given check
-      not-all-there e h = rw (ec, ek, e, h)
+module _ {s : Bytes} {f g : ℕ → Place} {c : ℕ} {ks : List ℕ} {b : Bool} (j : Judged s f g c ks b) where
+  pub unsuited : b ≡ false → refuse 9 ≡ byPlaces s f g
+  unfolding byPlaces given check
+  unsuited e = rw (j .coded, j .known, ← (j .nine), e)
 
-      pub accepted : (suited headerKeys s f && suited bodyKeys s g) ≡ true → all (λ (k : ℕ). g k .present) ks ≡ true
-          → (r : Frame) → r ≡ frameAt c s f g → _≡_ {A = FrameAnswer} (record { number = 0; length = length s; frame = r }) (byPlaces s f g)
-      unfolding byPlaces given check accept
-      accepted e h r q = rw (ec, ek, e, h, q)
+  module _ (e : b ≡ true) {t : Bool} (h : t ≡ all (λ (k : ℕ). g k .present) ks) where
+    pub not-all-there : t ≡ false → refuse 10 ≡ byPlaces s f g
+    unfolding byPlaces given check
+    not-all-there q = rw (j .coded, j .known, ← (j .nine), e, ← h, q)
+
+    pub accepted : t ≡ true → {r : Frame} → r ≡ frameAt c s f g → _≡_ {A = FrameAnswer} (record { number = 0; length = length s; frame = r }) (byPlaces s f g)
+    unfolding byPlaces given check accept
+    accepted q p = rw (j .coded, j .known, ← (j .nine), e, ← h, q, p)
 
 -- ---- 6 and 7
 
 -- 6 and 7, which the tables tell, then the rest
-unfoldable judged : Bytes → Table → Table → FrameAnswer
+unfoldable pub judged : Bytes → Table → Table → FrameAnswer
 judged s h b =
     pick (eqb (h .number) 6 || eqb (b .number) 6) (refuse 6)
     (pick (eqb (h .number) 7 || eqb (b .number) 7) (refuse 7)
@@ -140,20 +128,7 @@ long o p =
     let r = tabled-room o in
     (sym (ap (λ (t : Table). length (t .starts)) p ∙ r .starts), sym (ap (λ (t : Table). length (t .lengths)) p ∙ r .lengths))
 
-module _ (s : Bytes) (at : ℕ) (body : Body) (m n : ℕ) {f g k l : List ℕ} (p : table m f g ≡ fresh (entriesAt heldDepth s at)) (q : table n k l ≡ fresh (entriesIn s body)) where
-  told : judged s (table m f g) (table n k l) ≡ byEntries s (entriesAt heldDepth s at) (entriesIn s body)
-  unfolding emptyTable
-  told = ap₂ (judged s) p q ∙ judged-entries s _ _ (holds s at) (body-holds s body)
-
-  pub judged-6 : (eqb m 6 || eqb n 6) ≡ true → refuse 6 ≡ byEntries s (entriesAt heldDepth s at) (entriesIn s body)
-  unfolding judged
-  judged-6 e = rw e at told
-
-  pub judged-7 : (eqb m 6 || eqb n 6) ≡ false → (eqb m 7 || eqb n 7) ≡ true → refuse 7 ≡ byEntries s (entriesAt heldDepth s at) (entriesIn s body)
-  unfolding judged
-  judged-7 e h = rw (e, h) at told
-
-  pub judged-on : (eqb m 6 || eqb n 6) ≡ false → (eqb m 7 || eqb n 7) ≡ false
-      → byPlaces s (placeIn f g) (placeIn k l) ≡ byEntries s (entriesAt heldDepth s at) (entriesIn s body)
-  unfolding judged
-  judged-on e h = rw (e, h) at told
+pub told : (s : Bytes) (at : ℕ) (body : Body) {m n : ℕ} {f g k l : List ℕ} → table m f g ≡ fresh (entriesAt heldDepth s at) → table n k l ≡ fresh (entriesIn s body)
+    → judged s (table m f g) (table n k l) ≡ byEntries s (entriesAt heldDepth s at) (entriesIn s body)
+unfolding emptyTable
+told s at body p q = ap₂ (judged s) p q ∙ judged-entries s _ _ (holds s at) (body-holds s body)

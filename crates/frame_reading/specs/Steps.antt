@@ -1,4 +1,4 @@
--- Where the body is, and its entries.
+-- Inner: where the body is, and its entries.
 use Prim.Native.Nat.{ℕ}
 use mathlib.Core.List.{List, []}
 use mathlib.Core.Option.{Option, some}

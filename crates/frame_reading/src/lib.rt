@@ -29,7 +29,7 @@ pub fn read_size(s: &[u8]) -> Size
             if n == 0 {
                 return Size::Refused(3);
             }
-            if 60_000 < n {
+            if (frames::MAX_SIZE as u64) < n {
                 return Size::Refused(3);
             }
             Size::Promises(n as usize, from)
@@ -169,13 +169,13 @@ fn judge(s: &[u8], at: usize, body: Body) -> FrameAnswer
 pub fn read_contents(s: &[u8], at: usize) -> FrameAnswer
     ensures { λ r. ⌜ r ≡ inFrame (now (s .entry)) at ⌝ }
 {
-    let Read::Whole(end) = msgpack_values::read_value(s, at, 16) else {
+    let Read::Whole(end) = msgpack_values::read_value(s, at, frames::MAX_DEPTH) else {
         return refused(4);
     };
     let Body::At(from) = body_at(s, end) else {
         return judge(s, at, Body::Missing);
     };
-    let Read::Whole(last) = msgpack_values::read_value(s, from, 16) else {
+    let Read::Whole(last) = msgpack_values::read_value(s, from, frames::MAX_DEPTH) else {
         return refused(4);
     };
     if last < s.len() {

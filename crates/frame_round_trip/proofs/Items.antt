@@ -17,10 +17,9 @@ use Rattle.frames.specs.declared.Place.{Place}
 use Rattle.frames.specs.declared.Rule.{Rule}
 use Rattle.frames.specs.declared.Rule.the-variants.{AtMost, Array, String, Anything}
 use Rattle.frames.specs.Limits.{max64, heldDepth}
-use Rattle.frames.specs.Held.{all, Held, absent, outside, number, bytes, view, numberIn, suits, numbered, heldIn, heldAt, numberHeld, placeHeld, encoded, present, Item, item, locate}
+use Rattle.frames.specs.Held.{all, Held, absent, outside, number, bytes, view, numberIn, suits, numberOrBytes, valueHeld, heldAt, numberHeld, placeHeld, encoded, isSome, Item, item, locate}
 use Rattle.frames.specs.Keys.{optional}
 use Rattle.frames.specs.Maps.{keys, has, distinct}
-use Rattle.frames.specs.Reading.{suited}
 use Rattle.frames.specs.Writing.{Pair, onto, pairs, isWhole, sound}
 use Rattle.frame_round_trip.proofs.Numbers.{unsigned-form, form-whole}
 use Rattle.frame_round_trip.proofs.Maps.{All, Fine, located, Holds, Stands, seek}
@@ -203,18 +202,18 @@ module _ (s : Bytes) (p : Place) where
   a-view v a = (rw (a .same, a .present), rw (le-leb _ _ (a .inside), a .same, a .present))
 
   back-none : (t : Rule) → p .present ≡ false → Back t s p absent
-  unfolding heldAt heldIn again numberHeld numberIn optional
+  unfolding heldAt valueHeld again numberHeld numberIn optional
   back-none (AtMost m) e = record { reads = rw e; shows = rw e }
   back-none Array e = let b = no-view e (bytes (view s p)) in record { reads = b .0; shows = b .1 }
   back-none String e = let b = no-view e (bytes (view s p)) in record { reads = b .0; shows = b .1 }
   back-none Anything e = let b = no-view e (bytes (view s p)) in record { reads = b .0; shows = b .1 }
 
   back-number : (m n : ℕ) → n < 2 ^ 64 → Holds s p (unsignedForm n) → Back (AtMost m) s p (number n)
-  unfolding heldAt heldIn numbered again numberHeld optional
+  unfolding heldAt valueHeld numberOrBytes again numberHeld optional
   back-number m n l a = record { reads = rw (a .same, unsigned-form n l, a .present); shows = rw (number-back n s p l a) }
 
   back-bytes : (t : Rule) (v : Bytes) → suits t (bytes v) ≡ true → Holds s p v → Back t s p (bytes v)
-  unfolding suits heldAt heldIn again
+  unfolding suits heldAt valueHeld again
   back-bytes (AtMost m) v k a = never k
   back-bytes Array v k a = let b = a-view v a in record { reads = b .0; shows = b .1 }
   back-bytes String v k a = let b = a-view v a in record { reads = b .0; shows = b .1 }
@@ -258,13 +257,16 @@ reread-back s f [] h = refl
 reread-back s f (x ∷ xs) h = ap₂ (λ (a : Held) (l : List Item). item (x .key) (x .rule) a ∷ l) (h .0 .shows) (reread-back s f xs (h .1))
 
 -- 9 does not come
-pub suited-back : (s : Bytes) (f : ℕ → Place) (xs : List Item) → Backs s f xs → All Ready xs → suited xs s f ≡ true
-unfolding suited all
+abbrev pub suitedItems : List Item → Bytes → (ℕ → Place) → Bool
+suitedItems xs s f = all (λ (x : Item). suits (x .rule) (heldAt (x .rule) s (f (x .key)))) xs
+
+pub suited-back : (s : Bytes) (f : ℕ → Place) (xs : List Item) → Backs s f xs → All Ready xs → suitedItems xs s f ≡ true
+unfolding all
 suited-back s f [] h r = refl
 suited-back s f (x ∷ xs) h r = rw (h .0 .reads, r .0 .fit) (suited-back s f xs (h .1) (r .1))
 
 -- nor 10
-pub present-stands : (s : Bytes) (p : Place) (o : Option Bytes) → Stands s p o → p .present ≡ present o
-unfolding present
+pub present-stands : (s : Bytes) (p : Place) (o : Option Bytes) → Stands s p o → p .present ≡ isSome o
+unfolding isSome
 present-stands s p none a = a
 present-stands s p (some v) a = a .present

@@ -18,10 +18,10 @@ use Rattle.msgpack_writing.specs.Forms.{bigEndian, tagged, unsignedForm}
 use Rattle.msgpack_writing.proofs.Lengths.{length-bigEndian}
 use Rattle.msgpack_read_back.proofs.Digits.{number-bigEndian}
 use Rattle.msgpack_read_back.proofs.Back.{unsigned-back, integer-whole}
-use Rattle.frames.specs.Held.{natural}
+use Rattle.frames.specs.Held.{asNumber}
 
-pub unsigned-form : (n : ℕ) → n < 2 ^ 64 → natural (unsigned (unsignedForm n)) ≡ some n
-unfolding natural
+pub unsigned-form : (n : ℕ) → n < 2 ^ 64 → asNumber (unsigned (unsignedForm n)) ≡ some n
+unfolding asNumber
 unsigned-form n h = let e = rw append-nil at (unsigned-back n [] h) in rw e
 
 pub form-whole : (d n : ℕ) → n < 2 ^ 64 → value d (unsignedForm n) ≡ Whole (length (unsignedForm n))

@@ -23,18 +23,18 @@ use Rattle.frames.specs.declared.Frame.{Frame}
 use Rattle.frames.specs.declared.FrameAnswer.{FrameAnswer}
 use Rattle.frames.specs.declared.Size.the-variants.{Promises}
 use Rattle.frames.specs.Limits.{maxSize, maxDepth, heldDepth, max64}
-use Rattle.frames.specs.Held.{all, number, suits, numberHeld, encoded, present, Item, locate}
-use Rattle.frames.specs.Keys.{headerItems, bodyItems, optional, codeIn, frameAt, headerKeys, bodyKeys}
+use Rattle.frames.specs.Held.{all, Held, number, suits, numberHeld, encoded, isSome, Item, locate}
+use Rattle.frames.specs.Keys.{headerItems, bodyItems, optional, codeIn, frameAt, headerTable, bodyTable}
 use Rattle.frames.specs.Codes.{required}
-use Rattle.frames.specs.Maps.{entriesAt, has, keys, distinct, find}
+use Rattle.frames.specs.Maps.{Entry, entriesAt, has, keys, distinct, find}
 use Rattle.frames.specs.Cascade.{check, given, whole}
 use Rattle.frames.specs.Reading.{accept, suited, byPlaces, byEntries, bodyValue, bodyEntries, inFrame, sizeBy, sizeOf, bySize, frameRead}
-use Rattle.frames.specs.Writing.{flat, pairs, mapForm, contents, frameForm, sound, each, Outcome, refused, written, writeItems, frameWrite, seen, frameWriteCall}
+use Rattle.frames.specs.Writing.{flat, pairs, mapForm, contents, frameForm, sound, each, Outcome, refused, written, writeItems, frameWrite, callOf, frameWriteCall}
 use Rattle.frame_round_trip.specs.RoundTrip.{RoundTrip, RoundTrips}
 use Rattle.frame_round_trip.proofs.Numbers.{size-read}
 use Rattle.frame_round_trip.proofs.Maps.{All, Fine, located, behind, Stands, seek, map-whole, map-entries, found}
 use Rattle.frames.proofs.Pairs.{pairs-few}
-use Rattle.frame_round_trip.proofs.Items.{never, both, itemKeys, narrow, Ready, ready, tabled, pairs-fine, distinct-located, seek-pairs, again, Backs, number-back, backs, reread, reread-back, suited-back, present-stands}
+use Rattle.frame_round_trip.proofs.Items.{both, itemKeys, narrow, Ready, ready, tabled, pairs-fine, distinct-located, seek-pairs, again, Backs, number-back, backs, reread, reread-back, suitedItems, suited-back, present-stands}
 
 -- ---- from bytes to maps
 
@@ -71,71 +71,90 @@ module _ (w a b t : Bytes) (n : ℕ) (u : unsigned (w ++ t) ≡ Is n 5) (e : dro
 
 -- ---- from maps to the record: items that the writer accepts
 
+-- items of which a map is written: distinct keys, few, each ready
+record Listed (xs : List Item) : Type 0 where
+  apart : distinct (itemKeys xs) ≡ true
+  few : length xs < 65536
+  ready : All Ready xs
+
+few-pairs : {xs : List Item} → Listed xs → length (pairs xs) < 2 ^ 32
+few-pairs {xs} m = omega (arith, pairs-few xs, m .few)
+
+fine : {xs : List Item} → Listed xs → All (Fine heldDepth) (pairs xs)
+fine {xs} m = pairs-fine xs (m .ready)
+
+-- in w, from `at` on, the map of the items xs, and then t
+module _ (w : Bytes) (at : ℕ) (xs : List Item) (t : Bytes) (m : Listed xs) (e : drop at w ≡ mapForm (pairs xs) ++ t) where
+  entriesOf : List Entry
+  entriesOf = located (at + length (mapHeader (length (pairs xs)))) (pairs xs)
+
+  entries-are : entriesAt heldDepth w at ≡ some entriesOf
+  unfolding entriesOf
+  entries-are = map-entries heldDepth w at (pairs xs) t (fine m) (few-pairs m) e
+
+  stand : (k : ℕ) → Stands w (find entriesOf k) (seek (pairs xs) k)
+  unfolding entriesOf mapForm
+  stand k =
+      found heldDepth w (pairs xs) (at + length (mapHeader (length (pairs xs)))) t k (fine m)
+      (behind w at (mapHeader (length (pairs xs))) (joined (flat (pairs xs)) ++ t) (e ∙ append-assoc (mapHeader (length (pairs xs))) (joined (flat (pairs xs))) t))
+
+  held-stand : (k : ℕ) → Stands w (find entriesOf k) (encoded (locate xs k))
+  held-stand k = subst (λ (o : Option Bytes). Stands w (find entriesOf k) o) (seek-pairs xs k (m .apart)) (stand k)
+
+  come-back : Backs w (find entriesOf) xs
+  come-back = backs w (find entriesOf) xs (m .apart) (m .ready) stand
+
+  suit : suitedItems xs w (find entriesOf) ≡ true
+  suit = suited-back w (find entriesOf) xs come-back (m .ready)
+
+  once : distinct (keys entriesOf) ≡ true
+  unfolding entriesOf
+  once = distinct-located (at + length (mapHeader (length (pairs xs)))) xs (m .apart)
+
 record Accepted (c : ℕ) (hs bs : List Item) (ks : List ℕ) : Type 0 where
-  head-distinct : distinct (itemKeys hs) ≡ true
-  body-distinct : distinct (itemKeys bs) ≡ true
-  head-ready : All Ready hs
-  body-ready : All Ready bs
-  few : (length hs < 65536) × (length bs < 65536)
+  head : Listed hs
+  body : Listed bs
   coded : locate hs 0 ≡ number c
   small : c < 2 ^ 64
   known : required c ≡ some ks
-  needed : all (λ (k : ℕ). present (encoded (locate bs k))) ks ≡ true
+  needed : all (λ (k : ℕ). isSome (encoded (locate bs k))) ks ≡ true
   short : length (contents hs bs) ≤ maxSize
-  head-known : (s : Bytes) (f : ℕ → Place) → suited headerKeys s f ≡ suited hs s f
-  body-known : (s : Bytes) (g : ℕ → Place) → suited bodyKeys s g ≡ suited bs s g
+  head-known : (s : Bytes) (f : ℕ → Place) → suited headerTable s f ≡ suitedItems hs s f
+  body-known : (s : Bytes) (g : ℕ → Place) → suited bodyTable s g ≡ suitedItems bs s g
 
 module _ (c : ℕ) (hs bs : List Item) (ks : List ℕ) (ok : Accepted c hs bs ks) where
-  a : Bytes
+  abbrev a : Bytes
   a = mapForm (pairs hs)
 
-  b : Bytes
+  abbrev b : Bytes
   b = mapForm (pairs bs)
 
   w : Bytes
   w = frameForm (a ++ b)
 
-  headAt : ℕ
-  headAt = 5 + length (mapHeader (length (pairs hs)))
-
-  bodyAt : ℕ
-  bodyAt = 5 + length a + length (mapHeader (length (pairs bs)))
-
-  f : ℕ → Place
-  f = find (located headAt (pairs hs))
-
-  g : ℕ → Place
-  g = find (located bodyAt (pairs bs))
-
-  head-few : length (pairs hs) < 2 ^ 32
-  head-few = omega (arith, pairs-few hs, ok .few .0)
-
-  body-few : length (pairs bs) < 2 ^ 32
-  body-few = omega (arith, pairs-few bs, ok .few .1)
-
-  head-fine : All (Fine heldDepth) (pairs hs)
-  head-fine = pairs-fine hs (ok .head-ready)
-
-  body-fine : All (Fine heldDepth) (pairs bs)
-  body-fine = pairs-fine bs (ok .body-ready)
-
   after-size : drop 5 w ≡ a ++ b
   unfolding w frameForm
   after-size = drop-at (tagged 0xce 4 (length (a ++ b))) (a ++ b) 5 (ap suc (length-bigEndian 4 (length (a ++ b))))
 
-  after-head : drop (5 + length a) w ≡ b
-  after-head = sym (drop-drop (length a) 5 w) ∙ ap (drop (length a)) after-size ∙ drop-append-seam a b
+  after-head : drop (5 + length a) w ≡ b ++ []
+  after-head = sym (drop-drop (length a) 5 w) ∙ ap (drop (length a)) after-size ∙ drop-append-seam a b ∙ sym (append-nil b)
 
-  head-whole : value maxDepth (a ++ b) ≡ Whole (length a)
-  unfolding a
-  head-whole = map-whole heldDepth (pairs hs) b head-fine head-few
+  f : ℕ → Place
+  f = find (entriesOf w 5 hs b (ok .head) after-size)
 
-  body-whole : value maxDepth b ≡ Whole (length b)
-  unfolding b
-  body-whole = rw append-nil at (map-whole heldDepth (pairs bs) [] body-fine body-few)
+  g : ℕ → Place
+  g = find (entriesOf w (5 + length a) bs [] (ok .body) after-head)
+
+  head-backs : Backs w f hs
+  unfolding f
+  head-backs = come-back w 5 hs b (ok .head) after-size
+
+  body-backs : Backs w g bs
+  unfolding g
+  body-backs = come-back w (5 + length a) bs [] (ok .body) after-head
 
   short : length (a ++ b) ≤ maxSize
-  unfolding a b contents
+  unfolding contents
   short = ok .short
 
   size-first : (t : Bytes) → unsigned (w ++ t) ≡ Is (length (a ++ b)) 5
@@ -148,99 +167,72 @@ module _ (c : ℕ) (hs bs : List Item) (ks : List ℕ) (ok : Accepted c hs bs ks
   unfolding w frameForm
   long = omega (arith, length-append (bigEndian 4 (length (a ++ b))) (a ++ b), length-bigEndian 4 (length (a ++ b)))
 
-  head-entries : entriesAt heldDepth w 5 ≡ some (located headAt (pairs hs))
-  unfolding headAt a
-  head-entries = map-entries heldDepth w 5 (pairs hs) b head-fine head-few after-size
-
-  body-entries : entriesAt heldDepth w (5 + length a) ≡ some (located bodyAt (pairs bs))
-  unfolding bodyAt b
-  body-entries = map-entries heldDepth w (5 + length a) (pairs bs) [] body-fine body-few (after-head ∙ sym (append-nil b))
-
-  read-maps : (t : Bytes) → frameRead (w ++ t) ≡ byEntries w (some (located headAt (pairs hs))) (some (located bodyAt (pairs bs)))
-  read-maps t =
-      to-maps w a b t (length (a ++ b)) (size-first t) after-size long refl short head-whole body-whole
-      ∙ ap₂ (byEntries w) head-entries body-entries
-
-  head-stands : (k : ℕ) → Stands w (f k) (seek (pairs hs) k)
-  unfolding f headAt a mapForm
-  head-stands k =
-      found heldDepth w (pairs hs) headAt b k head-fine
-      (behind w 5 (mapHeader (length (pairs hs))) (joined (flat (pairs hs)) ++ b) (after-size ∙ append-assoc (mapHeader (length (pairs hs))) (joined (flat (pairs hs))) b))
-
-  body-stands : (k : ℕ) → Stands w (g k) (seek (pairs bs) k)
-  unfolding g bodyAt b mapForm
-  body-stands k =
-      found heldDepth w (pairs bs) bodyAt [] k body-fine
-      (behind w (5 + length a) (mapHeader (length (pairs bs))) (joined (flat (pairs bs)) ++ []) (after-head ∙ ap (_++_ (mapHeader (length (pairs bs)))) (sym (append-nil (joined (flat (pairs bs)))))))
-
-  head-backs : Backs w f hs
-  head-backs = backs w f hs (ok .head-distinct) (ok .head-ready) head-stands
-
-  body-backs : Backs w g bs
-  body-backs = backs w g bs (ok .body-distinct) (ok .body-ready) body-stands
-
   code-read : codeIn w f ≡ some c
-  unfolding codeIn encoded
+  unfolding codeIn encoded f
   code-read =
       number-back c w (f 0) (ok .small)
-      (subst (λ (o : Option Bytes). Stands w (f 0) o) (seek-pairs hs 0 (ok .head-distinct) ∙ ap encoded (ok .coded)) (head-stands 0))
+      (subst (λ (h : Held). Stands w (f 0) (encoded h)) (ok .coded) (held-stand w 5 hs b (ok .head) after-size 0))
 
   needs-there : all (λ (k : ℕ). g k .present) ks ≡ true
+  unfolding g
   needs-there =
-      ap (λ (p : ℕ → Bool). all p ks)
-      (fun-ext (λ k. present-stands w (g k) (encoded (locate bs k)) (subst (λ (o : Option Bytes). Stands w (g k) o) (seek-pairs bs k (ok .body-distinct)) (body-stands k))))
-      ∙ ok .needed
+      ap (λ (p : ℕ → Bool). all p ks) (fun-ext (λ k. present-stands w (g k) (encoded (locate bs k)) (held-stand w (5 + length a) bs [] (ok .body) after-head k))) ∙ ok .needed
 
   places-read : byPlaces w f g ≡ accept (length w) (frameAt c w f g)
-  unfolding byPlaces given check
+  unfolding byPlaces given check f g
   places-read =
-      rw (code-read, ok .known, ok .head-known w f, ok .body-known w g, suited-back w f hs head-backs (ok .head-ready), suited-back w g bs body-backs (ok .body-ready), needs-there)
+      rw (code-read, ok .known, ok .head-known w f, ok .body-known w g, suit w 5 hs b (ok .head) after-size, suit w (5 + length a) bs [] (ok .body) after-head, needs-there)
 
   read-back : (t : Bytes) → frameRead (w ++ t) ≡ accept (length w) (frameAt c w f g)
   unfolding byEntries given check f g
   read-back t =
-      read-maps t
-      ∙ rw (distinct-located headAt hs (ok .head-distinct), distinct-located bodyAt bs (ok .body-distinct)) places-read
+      to-maps w a b t (length (a ++ b)) (size-first t) after-size long refl short (map-whole heldDepth (pairs hs) b (fine (ok .head)) (few-pairs (ok .head)))
+      (rw append-nil at (map-whole heldDepth (pairs bs) [] (fine (ok .body)) (few-pairs (ok .body))))
+      ∙ rw (
+        entries-are w 5 hs b (ok .head) after-size,
+        entries-are w (5 + length a) bs [] (ok .body) after-head,
+        once w 5 hs b (ok .head) after-size,
+        once w (5 + length a) bs [] (ok .body) after-head,
+      ) places-read
 
 -- ---- what the writer accepts
-
-passed : (r : Outcome) (b : Bool) (o : Outcome) (v : Bytes) → (m : ℕ) → r ≡ refused m → check r b o ≡ written v → (b ≡ true) × (o ≡ written v)
-unfolding check
-passed r true o v m q h = (refl, h)
-passed r false o v m q h = absurd (let z : _≡_ {A = ℕ} 0 1 = cc in omega arith)
 
 record Passed (c : ℕ) (hs bs : List Item) (room : ℕ) (v : Bytes) : Type 0 where
   ks : List ℕ
   known : required c ≡ some ks
   sounds : each (λ (x : Item). sound (x .held)) hs bs ≡ true
   fits : each (λ (x : Item). suits (x .rule) (x .held)) hs bs ≡ true
-  needed : all (λ (k : ℕ). present (encoded (locate bs k))) ks ≡ true
+  needed : all (λ (k : ℕ). isSome (encoded (locate bs k))) ks ≡ true
   short : length (contents hs bs) ≤ maxSize
   roomy : length v ≤ room
   made : v ≡ frameForm (contents hs bs)
 
-passes : (c : ℕ) (hs bs : List Item) (room : ℕ) (v : Bytes) → writeItems c hs bs room ≡ written v → Passed c hs bs room v
-unfolding writeItems given
-passes c hs bs room v h = go (required c) refl h
-  where
-    go : (o : Option (List ℕ)) → required c ≡ o
-        → given (refused 8) o (λ needs.
-        check (refused 4) (each (λ (x : Item). sound (x .held)) hs bs)
-        (check (refused 9) (each (λ (x : Item). suits (x .rule) (x .held)) hs bs)
-        (check (refused 10) (all (λ (k : ℕ). present (encoded (locate bs k))) needs)
-        (check (refused 3) (leb (length (contents hs bs)) maxSize)
-        (check (refused 18) (leb (length (frameForm (contents hs bs))) room)
-        (written (frameForm (contents hs bs)))))))) ≡ written v
-        → Passed c hs bs room v
-    go none q h = absurd (let z : _≡_ {A = ℕ} 0 1 = cc in omega arith)
-    go (some ks) q h =
-        let (a4, h4) = passed (refused 4) _ _ v 4 refl h in
-        let (a9, h9) = passed (refused 9) _ _ v 9 refl h4 in
-        let (a10, h10) = passed (refused 10) _ _ v 10 refl h9 in
-        let (a3, h3) = passed (refused 3) _ _ v 3 refl h10 in
-        let (a18, h18) = passed (refused 18) _ _ v 18 refl h3 in
-        let m : v ≡ frameForm (contents hs bs) = cc in
-        record { ks = ks; known = q; sounds = a4; fits = a9; needed = a10; short = leb-true _ _ a3; roomy = rw m (leb-true _ _ a18); made = m }
+module _ (c : ℕ) (hs bs : List Item) (room : ℕ) where
+  -- what an outcome says of the items; a refusal is never 0
+  abbrev Says : Outcome → Type 0
+  Says (refused n) = n ≡ 0 → ⊥
+  Says (written v) = Passed c hs bs room v
+
+  check-says : (n : ℕ) (b : Bool) (o : Outcome) → (n ≡ 0 → ⊥) → (b ≡ true → Says o) → Says (check (refused n) b o)
+  unfolding check
+  check-says n true o h next = next refl
+  check-says n false o h next = h
+
+  given-says : (o : Option (List ℕ)) (k : List ℕ → Outcome) → ((ks : List ℕ) → o ≡ some ks → Says (k ks)) → Says (given (refused 8) o k)
+  unfolding given
+  given-says none k next = λ e. omega arith
+  given-says (some ks) k next = next ks refl
+
+  says : Says (writeItems c hs bs room)
+  unfolding writeItems
+  says =
+      given-says (required c) _ (λ ks known.
+      check-says 4 _ _ (λ e. omega arith) (λ sounds.
+      check-says 9 _ _ (λ e. omega arith) (λ fits.
+      check-says 10 _ _ (λ e. omega arith) (λ needed.
+      check-says 3 _ _ (λ e. omega arith) (λ short.
+      check-says 18 _ _ (λ e. omega arith) (λ roomy.
+      record { ks = ks; known = known; sounds = sounds; fits = fits; needed = needed; short = leb-true _ _ short; roomy = leb-true _ _ roomy; made = refl }))))))
 
 again-written : (c : ℕ) (hs bs : List Item) (room large : ℕ) (v : Bytes) → Passed c hs bs room v → length v ≤ large → writeItems c hs bs large ≡ written v
 unfolding writeItems given check
@@ -258,11 +250,11 @@ body-tabled : (r : Frame) (s : Bytes) → tabled (bodyItems r s) ≡ true
 unfolding tabled bodyItems itemKeys distinct has all narrow
 body-tabled r s = refl
 
-head-same : (r : Frame) (s : Bytes) (f : ℕ → Place) → suited headerKeys s f ≡ suited (headerItems r) s f
+head-same : (r : Frame) (s : Bytes) (f : ℕ → Place) → suited headerTable s f ≡ suitedItems (headerItems r) s f
 unfolding suited headerItems all
 head-same r s f = refl
 
-body-same : (r : Frame) (b s : Bytes) (g : ℕ → Place) → suited bodyKeys s g ≡ suited (bodyItems r b) s g
+body-same : (r : Frame) (b s : Bytes) (g : ℕ → Place) → suited bodyTable s g ≡ suitedItems (bodyItems r b) s g
 unfolding suited bodyItems all
 body-same r b s g = refl
 
@@ -284,29 +276,22 @@ code-small r h = let l = leb-true (r .code) max64 (both (leb (r .code) max64) _ 
 
 -- ---- the theorem
 
-table : (xs : List Item) → tabled xs ≡ true → (distinct (itemKeys xs) ≡ true) × (length xs < 65536) × (all (λ (x : Item). ltb (x .key) 128 && narrow (x .rule)) xs ≡ true)
+listed : (xs : List Item) → tabled xs ≡ true → all (λ (x : Item). sound (x .held)) xs ≡ true → all (λ (x : Item). suits (x .rule) (x .held)) xs ≡ true → Listed xs
 unfolding tabled
-table xs h =
+listed xs h x y =
     let a = both (distinct (itemKeys xs)) _ h in
     let b = both (ltb (length xs) 65536) _ (a .1) in
-    (a .0, ltb-true _ _ (b .0), b .1)
+    record { apart = a .0; few = ltb-true _ _ (b .0); ready = ready xs (b .1) x y }
 
 accepts : (r : Frame) (s : Bytes) (room : ℕ) (v : Bytes) (p : Passed (r .code) (headerItems r) (bodyItems r s) room v)
     → Accepted (r .code) (headerItems r) (bodyItems r s) (p .ks)
 unfolding each
 accepts r s room v p =
-    let hs = headerItems r in
-    let bs = bodyItems r s in
-    let th = table hs (head-tabled r) in
-    let tb = table bs (body-tabled r s) in
     let x = both _ _ (p .sounds) in
     let y = both _ _ (p .fits) in
     record {
-      head-distinct = th .0;
-      body-distinct = tb .0;
-      head-ready = ready hs (th .2) (x .0) (y .0);
-      body-ready = ready bs (tb .2) (x .1) (y .1);
-      few = (th .1, tb .1);
+      head = listed (headerItems r) (head-tabled r) (x .0) (y .0);
+      body = listed (bodyItems r s) (body-tabled r s) (x .1) (y .1);
       coded = head-coded r;
       small = code-small r (y .0);
       known = p .known;
@@ -330,21 +315,21 @@ module _ (r : Frame) (s : Bytes) (room : ℕ) (p : Passed (r .code) (headerItems
   G = g (r .code) (headerItems r) (bodyItems r s) (p .ks) ok
 
   read-front : (t : Bytes) → frameRead (x ++ t) ≡ accept (length x) (frameAt (r .code) x F G)
-  unfolding x F G w a b contents
+  unfolding x F G w contents
   read-front t = read-back (r .code) (headerItems r) (bodyItems r s) (p .ks) ok t
 
   read-alone : frameRead x ≡ accept (length x) (frameAt (r .code) x F G)
   read-alone = ap frameRead (sym (append-nil x)) ∙ read-front []
 
   same-header : headerItems (frameRead x .frame) ≡ headerItems r
-  unfolding x F w a b contents accept
+  unfolding x F w contents accept
   same-header =
       ap (λ (o : FrameAnswer). headerItems (o .frame)) read-alone
       ∙ head-shown r (r .code) x F G (code-read (r .code) (headerItems r) (bodyItems r s) (p .ks) ok)
       ∙ reread-back x F (headerItems r) (head-backs (r .code) (headerItems r) (bodyItems r s) (p .ks) ok)
 
   same-body : bodyItems (frameRead x .frame) x ≡ bodyItems r s
-  unfolding x G w a b contents accept
+  unfolding x G w contents accept
   same-body =
       ap (λ (o : FrameAnswer). bodyItems (o .frame) x) read-alone
       ∙ body-shown r (r .code) s x F G
@@ -362,7 +347,7 @@ module _ (r : Frame) (s : Bytes) (room : ℕ) (p : Passed (r .code) (headerItems
       ∙ again-written (r .code) (headerItems r) (bodyItems r s) room large x p l
 
   trip : RoundTrip r s x
-  unfolding accept frameWriteCall seen
+  unfolding accept frameWriteCall callOf
   trip =
       record {
         accepted = ap (λ (o : FrameAnswer). o .number) read-alone;
@@ -370,48 +355,19 @@ module _ (r : Frame) (s : Bytes) (room : ℕ) (p : Passed (r .code) (headerItems
         header = same-header;
         body = same-body;
         followed = λ t. read-front t ∙ sym read-alone;
-        again = λ old l. ap (seen old) (rewritten (length old) l);
+        again = λ old l. ap (callOf old) (rewritten (length old) l);
       }
 
-written-trip : (r : Frame) (s : Bytes) (room : ℕ) (v : Bytes) → frameWrite r s room ≡ written v → RoundTrip r s v
-unfolding frameWrite x
-written-trip r s room v h =
-    let p = passes (r .code) (headerItems r) (bodyItems r s) room v h in
+written-trip : (r : Frame) (s : Bytes) (room : ℕ) (v : Bytes) → Passed (r .code) (headerItems r) (bodyItems r s) room v → RoundTrip r s v
+unfolding x
+written-trip r s room v p =
     subst (RoundTrip r s) (sym (p .made)) (trip r s room (subst (Passed (r .code) (headerItems r) (bodyItems r s) room) (p .made) p))
 
--- a refusal is never 0
-abbrev Fair : Outcome → Type 0
-Fair (refused n) = n ≡ 0 → ⊥
-Fair (written v) = Unit {0}
-
-check-fair : (n : ℕ) (b : Bool) (o : Outcome) → (n ≡ 0 → ⊥) → Fair o → Fair (check (refused n) b o)
-unfolding check
-check-fair n true o h f = f
-check-fair n false o h f = h
-
-write-fair : (c : ℕ) (hs bs : List Item) (room : ℕ) → Fair (writeItems c hs bs room)
-unfolding writeItems given
-write-fair c hs bs room = go (required c)
-  where
-    go : (o : Option (List ℕ)) → Fair (given (refused 8) o (λ needs.
-        check (refused 4) (each (λ (x : Item). sound (x .held)) hs bs)
-        (check (refused 9) (each (λ (x : Item). suits (x .rule) (x .held)) hs bs)
-        (check (refused 10) (all (λ (k : ℕ). present (encoded (locate bs k))) needs)
-        (check (refused 3) (leb (length (contents hs bs)) maxSize)
-        (check (refused 18) (leb (length (frameForm (contents hs bs))) room)
-        (written (frameForm (contents hs bs)))))))))
-    go none = λ e. omega arith
-    go (some ks) =
-        check-fair 4 _ _ (λ e. omega arith)
-        (check-fair 9 _ _ (λ e. omega arith)
-        (check-fair 10 _ _ (λ e. omega arith)
-        (check-fair 3 _ _ (λ e. omega arith)
-        (check-fair 18 _ _ (λ e. omega arith) tt))))
-
 pub round-trip : RoundTrips
-unfolding frameWriteCall seen frameWrite
-round-trip r s old h = go (frameWrite r s (length old)) refl (write-fair (r .code) (headerItems r) (bodyItems r s) (length old)) h
+unfolding frameWriteCall callOf frameWrite
+round-trip r s old h = go (frameWrite r s (length old)) (says (r .code) (headerItems r) (bodyItems r s) (length old)) h
   where
-    go : (o : Outcome) → frameWrite r s (length old) ≡ o → Fair o → seen old o .number ≡ 0 → RoundTrip r s (take (seen old o .length) (seen old o .buffer))
-    go (refused n) q f h = absurd (f h)
-    go (written v) q f h = subst (RoundTrip r s) (sym (take-append-seam v (drop (length v) old))) (written-trip r s (length old) v q)
+    go : (o : Outcome) → Says (r .code) (headerItems r) (bodyItems r s) (length old) o → callOf old o .number ≡ 0
+        → RoundTrip r s (take (callOf old o .length) (callOf old o .buffer))
+    go (refused n) f h = absurd (f h)
+    go (written v) p h = subst (RoundTrip r s) (sym (take-append-seam v (drop (length v) old))) (written-trip r s (length old) v p)

@@ -1,5 +1,5 @@
 -- "Reading what was written gives the same numbers and the same bytes per view. A frame the writer made is written again identically."
-use Prim.Native.Nat.{ℕ, _≤_}
+use Prim.Native.Nat.{_≤_}
 use mathlib.Core.Path.{_≡_}
 use mathlib.Core.List.{_++_}
 use lib.ListN.{length, take, drop}
@@ -7,7 +7,7 @@ use Rattle.msgpack_first_bytes.specs.Bytes.{Bytes}
 use Rattle.frames.specs.declared.Frame.{Frame}
 use Rattle.frames.specs.Keys.{headerItems, bodyItems}
 use Rattle.frames.specs.Reading.{frameRead}
-use Rattle.frames.specs.Writing.{Call, frameWriteCall}
+use Rattle.frames.specs.Writing.{frameWriteCall}
 
 -- w was written of the record r, whose places are of the bytes s. Items hold a record's numbers and, of each place, the bytes of its view
 pub record RoundTrip (r : Frame) (s w : Bytes) : Type 0 where

@@ -1,80 +1,27 @@
--- What the answers below say of the rules. Assumes nothing.
+-- What the answers below say of the codes and of the tables. Assumes nothing.
 use mathlib.Core.Path.{_≡_, refl, sym, ap, _∙_}
 use mathlib.Core.List.{List, [], _∷_}
 use mathlib.Core.Bool.{true, false, _&&_}
-use mathlib.Core.Option.{none, some}
+use mathlib.Core.Option.{Option, none, some}
 use mathlib.Core.Logic.{_⊎_, inl, inr}
-use Prim.Native.Nat.{ℕ, _<_, _≤_}
+use Prim.Native.Nat.{ℕ, zero, suc, _<_, _≤_}
 use native.Mathlib.Omega.{arith}
 use borrow.Author.Tests.{le-leb, lt-leb, ne-eqb}
 use lib.Dec.{leb}
-use lib.ListN.{length, take}
-use Rattle.msgpack_first_bytes.specs.Bytes.{Bytes}
-use Rattle.msgpack_scalars.specs.Integer.{unsigned, shiftNatural}
-use Rattle.msgpack_scalars.specs.Header.{shiftHeader}
-use Rattle.msgpack_scalars.specs.declared.Natural.{Natural}
-use Rattle.msgpack_scalars.specs.declared.Natural.the-variants.{Is, Cut, Other}
-use Rattle.msgpack_scalars.specs.declared.Header.{Header}
-use Rattle.msgpack_scalars.specs.declared.Header.the-variants.{Is as Opens, Other as Elsewhere}
-use Rattle.frames.specs.Held.{natural, numbered, heldIn, suits, opened}
+use lib.ListN.{length, take, length-append, List·getD-eq-default}
+use lib.Seq.{take-append-seam}
 use Rattle.frames.specs.Codes.{codes, among, isError, required}
-use Rattle.frames.specs.declared.Rule.the-variants.{AtMost}
-use Rattle.frame_rules.specs.Needs.{needed, knownNeeds}
+use Rattle.frames.specs.Keys.{allLines}
+use Rattle.frames.specs.Limits.{knownKeys}
+use Rattle.frames.proofs.Front.{impossible}
+use Rattle.frame_rules.specs.Needs.{needsFor, needsOf, lineAt, noLine}
 use Rattle.frame_rules.specs.declared.Needs.{Needs}
-
-impossible : {A : Type 0} → _≡_ {A = ℕ} 0 1 → A
-impossible z = absurd (omega arith)
-
--- ---- 9
-
-pub is-opened : (h : Header) (n e : ℕ) → Opens n e ≡ shiftHeader 0 h → true ≡ opened h
-unfolding opened
-is-opened (Opens m l) n e q = refl
-is-opened Elsewhere n e q = impossible cc
-
-pub not-opened : (h : Header) → Elsewhere ≡ shiftHeader 0 h → false ≡ opened h
-unfolding opened
-not-opened (Opens m l) q = impossible cc
-not-opened Elsewhere q = refl
-
-module _ (v : Bytes) (m : ℕ) where
-  pub number-suits : (n e : ℕ) → Is n e ≡ shiftNatural 0 (unsigned v) → leb n m ≡ suits (AtMost m) (heldIn (AtMost m) v)
-  unfolding suits heldIn numbered natural
-  number-suits n e q = go (unsigned v) q
-    where
-      go : (u : Natural) → Is n e ≡ shiftNatural 0 u → leb n m ≡ suits (AtMost m) (numbered (natural u) v)
-      go (Is k l) q = let z : n ≡ k = cc in rw z
-      go Cut q = impossible cc
-      go Other q = impossible cc
-
-  pub cut-suits : Cut ≡ shiftNatural 0 (unsigned v) → false ≡ suits (AtMost m) (heldIn (AtMost m) v)
-  unfolding suits heldIn numbered natural
-  cut-suits q = go (unsigned v) q
-    where
-      go : (u : Natural) → Cut ≡ shiftNatural 0 u → false ≡ suits (AtMost m) (numbered (natural u) v)
-      go (Is k l) q = impossible cc
-      go Cut q = refl
-      go Other q = impossible cc
-
-  pub other-suits : Other ≡ shiftNatural 0 (unsigned v) → false ≡ suits (AtMost m) (heldIn (AtMost m) v)
-  unfolding suits heldIn numbered natural
-  other-suits q = go (unsigned v) q
-    where
-      go : (u : Natural) → Other ≡ shiftNatural 0 u → false ≡ suits (AtMost m) (numbered (natural u) v)
-      go (Is k l) q = impossible cc
-      go Cut q = impossible cc
-      go Other q = refl
 
 -- ---- 8 and 10
 
-pub known-code : {c k n : ℕ} {ks : List ℕ} {r : Needs} → c ≡ k → r ≡ knownNeeds n ks → some (take n ks) ≡ required k → n ≤ length ks
-    → (needed r ≡ required c) × (r .count ≤ length (r .keys))
-unfolding needed
-known-code e q h l = (ap needed q ∙ h ∙ ap required (sym e), rw q l)
-
-pub error-code : (c : ℕ) (r : Needs) → 0x8000 ≤ c → c < 0x9000 → r ≡ knownNeeds 1 (0x31 ∷ 0 ∷ 0 ∷ 0 ∷ 0 ∷ 0 ∷ []) → (needed r ≡ required c) × (r .count ≤ length (r .keys))
-unfolding needed required isError
-error-code c r h k q = (rw (q, le-leb 0x8000 c h, le-leb c 0x8fff (omega arith)), rw q (omega arith))
+pub error-code : (c : ℕ) → 0x8000 ≤ c → c < 0x9000 → required c ≡ some (0x31 ∷ [])
+unfolding required isError
+error-code c h k = rw (le-leb 0x8000 c h, le-leb c 0x8fff (omega arith))
 
 no-error : (c : ℕ) → (c < 0x8000) ⊎ (0x8fff < c) → (leb 0x8000 c && leb c 0x8fff) ≡ false
 no-error c (inl h) = rw (lt-leb 0x8000 c h)
@@ -86,7 +33,7 @@ NoneOf [] c = Unit {0}
 NoneOf (k ∷ ks) c = NoneOf ks c × (c ≡ k → ⊥)
 
 pub unknown-code : (c : ℕ) → (c < 0x8000) ⊎ (0x8fff < c)
-    → NoneOf (0x40 ∷ 0x0a ∷ 0x09 ∷ 0x08 ∷ 0x07 ∷ 0x06 ∷ 0x05 ∷ 0x04 ∷ 0x03 ∷ 0x02 ∷ 0x01 ∷ 0x00 ∷ []) c → none ≡ required c
+    → NoneOf (0x40 ∷ 0x0a ∷ 0x09 ∷ 0x08 ∷ 0x07 ∷ 0x06 ∷ 0x05 ∷ 0x04 ∷ 0x03 ∷ 0x02 ∷ 0x01 ∷ 0x00 ∷ []) c → required c ≡ none
 unfolding required among codes isError
 unknown-code c e ((((((((((((_, n0), n1), n2), n3), n4), n5), n6), n7), n8), n9), na), np) =
     rw (
@@ -104,3 +51,44 @@ unknown-code c e ((((((((((((_, n0), n1), n2), n3), n4), n5), n6), n7), n8), n9)
       ne-eqb c 0x40 np,
       ne-eqb c 0x00 n0,
     )
+
+-- what the answer says of the definition
+module _ (c : ℕ) {n : Needs} (e : n ≡ needsOf c) where
+  pub code-unknown : n .known ≡ false → required c ≡ none
+  unfolding needsOf needsFor
+  code-unknown h = go (required c) e
+    where
+      go : (o : Option (List ℕ)) → n ≡ needsFor o → o ≡ none
+      go none q = refl
+      go (some ks) q = impossible (let z = sym h ∙ ap (λ (x : Needs). x .known) q in cc)
+
+  pub code-known : n .known ≡ true → required c ≡ some (take (n .count) (n .keys))
+  unfolding needsOf needsFor
+  code-known h = go (required c) e
+    where
+      go : (o : Option (List ℕ)) → n ≡ needsFor o → o ≡ some (take (n .count) (n .keys))
+      go none q = impossible (let z = sym h ∙ ap (λ (x : Needs). x .known) q in cc)
+      go (some ks) q = rw q (ap some (sym (take-append-seam ks _)))
+
+  pub keys-fit : n .count ≤ length (n .keys)
+  unfolding needsOf needsFor
+  keys-fit = go (required c) e
+    where
+      go : (o : Option (List ℕ)) → n ≡ needsFor o → n .count ≤ length (n .keys)
+      go none q = rw q (omega arith)
+      go (some ks) q = rw q (simp length-append (omega arith))
+
+-- ---- 9
+
+-- none of 0 to n - 1, as a match leaves it: the first innermost
+abbrev pub NoneBelow : ℕ → ℕ → Type 0
+NoneBelow zero i = Unit {0}
+NoneBelow (suc n) i = NoneBelow n i × (i ≡ n → ⊥)
+
+pub none-below : (n i : ℕ) → NoneBelow n i → n ≤ i
+none-below zero i h = omega arith
+none-below (suc n) i h = let k = none-below n i (h .0) in let z : i ≡ n → ⊥ = h .1 in omega arith
+
+pub line-past : (i : ℕ) → NoneBelow knownKeys i → lineAt i ≡ noLine
+unfolding lineAt
+line-past i h = List·getD-eq-default allLines noLine {n = i} (none-below knownKeys i h)

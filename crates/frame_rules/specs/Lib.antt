@@ -1,2 +1,2 @@
--- What a code requires, as the code holds it.
+-- What a code requires and a known key must hold, as the code has them.
 pub mod Needs

@@ -1,14 +1,29 @@
--- The required keys of a code in a fixed room: the first `count` of six.
-use Prim.Native.Nat.{ℕ}
-use mathlib.Core.Bool.{Bool, true}
-use mathlib.Core.List.{List}
+-- Inner: what a code requires and what a known key must hold, as the code has them.
+use Prim.Native.Nat.{ℕ, _-_}
+use mathlib.Core.Bool.{true, false}
+use mathlib.Core.List.{List, _++_}
 use mathlib.Core.Option.{Option, none, some}
-use lib.ListN.{take}
-use Rattle.msgpack_first_bytes.specs.Bytes.{pick}
+use lib.ListN.{length, replicate, getD}
+use Rattle.frames.specs.declared.Line.{Line}
+use Rattle.frames.specs.declared.Rule.the-variants.{Anything}
+use Rattle.frames.specs.Codes.{required}
+use Rattle.frames.specs.Keys.{line, allLines}
 use Rattle.frame_rules.specs.declared.Needs.{Needs}
-
-unfoldable pub needed : Needs → Option (List ℕ)
-needed n = pick (n .known) (some (take (n .count) (n .keys))) none
 
 abbrev pub knownNeeds : ℕ → List ℕ → Needs
 knownNeeds n ks = record { known = true; count = n; keys = ks }
+
+-- the required keys in a room of six, 0 past the last
+unfoldable pub needsFor : Option (List ℕ) → Needs
+needsFor none = record { known = false; count = 0; keys = replicate 6 0 }
+needsFor (some ks) = knownNeeds (length ks) (ks ++ replicate (6 - length ks) 0)
+
+unfoldable pub needsOf : ℕ → Needs
+needsOf c = needsFor (required c)
+
+-- the i-th known key, header and then body; past the last, key 0 and no rule
+abbrev pub noLine : Line
+noLine = line 0 Anything
+
+unfoldable pub lineAt : ℕ → Line
+lineAt i = getD allLines i noLine

@@ -1,8 +1,13 @@
 // Whether the known keys of a header and of a body hold what they must.
+use frames::HEADER_KEYS;
+use frames::KNOWN_KEYS;
 use frames::Rule;
 ghost use mathlib.Core.Path.{_≡_};
+ghost use Prim.Native.Nat.{_≤_};
+ghost use lib.Seq.{slice};
+ghost use Rattle.frames.specs.Limits.{knownKeys};
 ghost use Rattle.frames.specs.Held.{suits, heldAt};
-ghost use Rattle.frames.specs.Keys.{headerKeys, bodyKeys};
+ghost use Rattle.frames.specs.Keys.{headerTable, bodyTable, allLines};
 ghost use Rattle.frames.specs.Reading.{suited};
 ghost use Rattle.frame_tables.specs.Tables.{placeIn};
 
@@ -18,30 +23,31 @@ fn key_suits(s: &[u8], starts: &[usize], lengths: &[usize], key: usize, rule: Ru
     }
 }
 
-pub fn header_suits(s: &[u8], starts: &[usize], lengths: &[usize]) -> bool
-    ensures { λ r. ⌜ r ≡ suited headerKeys (now (s .entry)) (placeIn (now (starts .entry)) (now (lengths .entry))) ⌝ }
+// The known keys from one on and up to another, in the order of document 01's tables.
+fn keys_suit(s: &[u8], starts: &[usize], lengths: &[usize], from: usize, to: usize) -> bool
+    requires { ⌜ (from ≤ to) × (to ≤ knownKeys) ⌝ }
+    ensures { λ r. ⌜ r ≡ suited (slice from to allLines) (now (s .entry)) (placeIn (now (starts .entry)) (now (lengths .entry))) ⌝ }
 {
-    let wide = Rule::AtMost(0xffff_ffff_ffff_ffff);
-    key_suits(s, starts, lengths, 0x00, wide)
-        & key_suits(s, starts, lengths, 0x01, wide)
-        & key_suits(s, starts, lengths, 0x05, wide)
+    let mut i = from;
+    while i < to {
+        let line = frame_rules::line_of(i);
+        let rule = line.rule;
+        if !key_suits(s, starts, lengths, line.key as usize, rule) {
+            return false;
+        }
+        i += 1;
+    }
+    true
+}
+
+pub fn header_suits(s: &[u8], starts: &[usize], lengths: &[usize]) -> bool
+    ensures { λ r. ⌜ r ≡ suited headerTable (now (s .entry)) (placeIn (now (starts .entry)) (now (lengths .entry))) ⌝ }
+{
+    keys_suit(s, starts, lengths, 0, HEADER_KEYS)
 }
 
 pub fn body_suits(s: &[u8], starts: &[usize], lengths: &[usize]) -> bool
-    ensures { λ r. ⌜ r ≡ suited bodyKeys (now (s .entry)) (placeIn (now (starts .entry)) (now (lengths .entry))) ⌝ }
+    ensures { λ r. ⌜ r ≡ suited bodyTable (now (s .entry)) (placeIn (now (starts .entry)) (now (lengths .entry))) ⌝ }
 {
-    key_suits(s, starts, lengths, 0x10, Rule::AtMost(4_294_967_295))
-        & key_suits(s, starts, lengths, 0x11, Rule::AtMost(4_294_967_295))
-        & key_suits(s, starts, lengths, 0x12, Rule::AtMost(4_294_967_295))
-        & key_suits(s, starts, lengths, 0x13, Rule::AtMost(4_294_967_295))
-        & key_suits(s, starts, lengths, 0x14, Rule::AtMost(4_294_967_295))
-        & key_suits(s, starts, lengths, 0x15, Rule::AtMost(1))
-        & key_suits(s, starts, lengths, 0x20, Rule::Array)
-        & key_suits(s, starts, lengths, 0x21, Rule::Array)
-        & key_suits(s, starts, lengths, 0x22, Rule::String)
-        & key_suits(s, starts, lengths, 0x23, Rule::String)
-        & key_suits(s, starts, lengths, 0x27, Rule::String)
-        & key_suits(s, starts, lengths, 0x28, Rule::Array)
-        & key_suits(s, starts, lengths, 0x30, Rule::Anything)
-        & key_suits(s, starts, lengths, 0x31, Rule::String)
+    keys_suit(s, starts, lengths, HEADER_KEYS, KNOWN_KEYS)
 }

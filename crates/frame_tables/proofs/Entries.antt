@@ -21,7 +21,7 @@ use Rattle.msgpack_scalars.specs.Integer.{unsigned, shiftNatural}
 use Rattle.msgpack_scalars.specs.Start.{mapBy}
 use Rattle.msgpack_scalars.specs.Header.{header, shiftHeader}
 use Rattle.msgpack_scalars.specs.declared.Header.{Header}
-use Rattle.msgpack_scalars.specs.declared.Header.the-variants.{Is as Opens, Other as Elsewhere}
+use Rattle.msgpack_scalars.specs.declared.Header.the-variants.{Is as HeaderIs, Other as NoHeader}
 use Rattle.msgpack_scalars.specs.declared.Natural.{Natural}
 use Rattle.msgpack_scalars.specs.declared.Natural.the-variants.{Is, Cut, Other}
 use Rattle.msgpack_scalars.proofs.Natural as natural-type
@@ -149,26 +149,26 @@ entries-fit d s (suc n) at es q = first (entryAt d s at) refl (entries-fit d s n
 -- ---- the map at a place
 
 module _ (d : ℕ) (s : Bytes) (at : ℕ) where
-  pub no-map : Elsewhere ≡ shiftHeader at (header mapBy (drop at s)) → entriesAt d s at ≡ none
+  pub no-map : NoHeader ≡ shiftHeader at (header mapBy (drop at s)) → entriesAt d s at ≡ none
   unfolding entriesAt entriesBy
   no-map e = go (header mapBy (drop at s)) e
     where
-      go : (h : Header) → Elsewhere ≡ shiftHeader at h → entriesBy d s at h ≡ none
-      go (Opens n l) e = impossible cc
-      go Elsewhere e = refl
+      go : (h : Header) → NoHeader ≡ shiftHeader at h → entriesBy d s at h ≡ none
+      go (HeaderIs n l) e = impossible cc
+      go NoHeader e = refl
 
-  pub a-map : (n from : ℕ) → Opens n from ≡ shiftHeader at (header mapBy (drop at s)) → entriesAt d s at ≡ entries d s n from
+  pub a-map : (n from : ℕ) → HeaderIs n from ≡ shiftHeader at (header mapBy (drop at s)) → entriesAt d s at ≡ entries d s n from
   unfolding entriesAt entriesBy
   a-map n from e = go (header mapBy (drop at s)) e
     where
-      go : (h : Header) → Opens n from ≡ shiftHeader at h → entriesBy d s at h ≡ entries d s n from
-      go (Opens m l) e = let p : n ≡ m = cc in let q : from ≡ at + l = cc in rw (p, q)
-      go Elsewhere e = impossible cc
+      go : (h : Header) → HeaderIs n from ≡ shiftHeader at h → entriesBy d s at h ≡ entries d s n from
+      go (HeaderIs m l) e = let p : n ≡ m = cc in let q : from ≡ at + l = cc in rw (p, q)
+      go NoHeader e = impossible cc
 
   pub all-fit : (es : List Entry) → entriesAt d s at ≡ some es → AllFit s es
   unfolding entriesAt entriesBy
   all-fit es e = go (header mapBy (drop at s)) e
     where
       go : (h : Header) → entriesBy d s at h ≡ some es → AllFit s es
-      go (Opens n l) e = entries-fit d s n (at + l) es e
-      go Elsewhere e = impossible cc
+      go (HeaderIs n l) e = entries-fit d s n (at + l) es e
+      go NoHeader e = impossible cc

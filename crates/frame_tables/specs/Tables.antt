@@ -1,4 +1,4 @@
--- A map's entries laid into a table: where each key's value starts, and its length.
+-- Inner: a map's entries laid into a table: where each key's value starts, and its length.
 use Prim.Native.Nat.{ℕ}
 use mathlib.Core.List.{List, [], _∷_}
 use mathlib.Core.Option.{Option, none, some}

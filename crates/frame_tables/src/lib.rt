@@ -24,10 +24,10 @@ fn entry_at(s: &[u8], at: usize) -> Step
     let Natural::Is(key, start) = msgpack_scalars::unsigned_at(s, at) else {
         return Step::NoKey;
     };
-    if 127 < key {
+    if frames::MAX_KEY < key {
         return Step::NoKey;
     }
-    let Read::Whole(end) = msgpack_values::read_value(s, start, 15) else {
+    let Read::Whole(end) = msgpack_values::read_value(s, start, frames::HELD_DEPTH) else {
         return Step::NoKey;
     };
     Step::Entry(key as usize, start, end - start)

@@ -9,7 +9,8 @@ use Rattle.msgpack_writing.specs.Forms.{tagged, mapHeader}
 use Rattle.msgpack_writing.specs.Put.{put, next}
 use Rattle.msgpack_writing.proofs.Put.{Wrote, wrote, written, join, nothing, length-put}
 use Rattle.frames.specs.declared.Frame.{Frame}
-use Rattle.frames.specs.Held.{all, Item}
+use Rattle.frames.specs.Limits.{headerKeys, knownKeys}
+use Rattle.frames.specs.Held.{Item}
 use Rattle.frames.specs.Keys.{headerItems, bodyItems}
 use Rattle.frames.specs.Writing.{pairs, mapForm, contents, frameForm}
 use Rattle.frame_judging.proofs.Runs.{header-run, body-run}
@@ -62,10 +63,10 @@ map-first xs e = rw e
 
 module _ (r : Frame) (s : Bytes) where
   abbrev pub headerForm : Bytes
-  headerForm = mapForm (pairs (itemsBetween 0 3 r s))
+  headerForm = mapForm (pairs (itemsBetween 0 headerKeys r s))
 
   abbrev pub bodyForm : Bytes
-  bodyForm = mapForm (pairs (itemsBetween 3 17 r s))
+  bodyForm = mapForm (pairs (itemsBetween headerKeys knownKeys r s))
 
   frame-first : (size : ℕ) → size ≡ length (contents (headerItems r) (bodyItems r s))
       → frameForm (contents (headerItems r) (bodyItems r s)) ≡ tagged 0xce 4 size ++ (headerForm ++ bodyForm)

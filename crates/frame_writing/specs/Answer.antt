@@ -1,4 +1,4 @@
--- What a refused call answers.
+-- Inner: what a refused call answers.
 use Prim.Native.Nat.{ℕ}
 use Rattle.frames.specs.declared.Written.{Written}
 

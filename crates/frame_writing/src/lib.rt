@@ -1,11 +1,15 @@
 // Writing a frame: every refusal before the first byte, then each piece into the rest of the lent buffer.
 use frame_items::Content;
 use frames::Frame;
+use frames::HEADER_KEYS;
+use frames::KNOWN_KEYS;
+use frames::MAX_SIZE;
 use frames::Written;
 ghost use mathlib.Core.Path.{_≡_};
 ghost use mathlib.Core.List.{_∷_};
 ghost use Prim.Native.Nat.{_+_, _≤_};
 ghost use lib.ListN.{length};
+ghost use Rattle.frames.specs.Limits.{knownKeys};
 ghost use Rattle.frames.specs.Held.{encoded};
 ghost use Rattle.frames.specs.Keys.{headerItems, bodyItems};
 ghost use Rattle.frames.specs.Writing.{pairs, mapForm, contents, frameForm, Call, frameWriteCall};
@@ -50,7 +54,7 @@ fn put_pair(out: &mut [u8], at: usize, key: u8, content: Content, bytes: &[u8]) 
 
 // The pairs of the keys from one on and up to another.
 fn put_pairs(out: &mut [u8], at: usize, frame: Frame, bytes: &[u8], from: usize, to: usize) -> usize
-    requires { ⌜ ((from ≤ to) × (to ≤ 17)) × (at + length (pairBytes (itemsBetween from to frame (now bytes))) ≤ length (now out)) ⌝ }
+    requires { ⌜ ((from ≤ to) × (to ≤ knownKeys)) × (at + length (pairBytes (itemsBetween from to frame (now bytes))) ≤ length (now out)) ⌝ }
     ensures { λ r. ⌜ (r ≡ next at (pairBytes (itemsBetween from to frame (now (bytes .entry)))) (now (out .entry)))
         × (now (out .exit) ≡ put at (pairBytes (itemsBetween from to frame (now (bytes .entry)))) (now (out .entry))) ⌝ }
 {
@@ -75,7 +79,7 @@ fn put_map(
     to: usize,
     count: u32,
 ) -> usize
-    requires { ⌜ (((from ≤ to) × (to ≤ 17)) × (count ≡ length (pairs (itemsBetween from to frame (now bytes)))))
+    requires { ⌜ (((from ≤ to) × (to ≤ knownKeys)) × (count ≡ length (pairs (itemsBetween from to frame (now bytes)))))
         × (at + length (mapForm (pairs (itemsBetween from to frame (now bytes)))) ≤ length (now out)) ⌝ }
     ensures { λ r. ⌜ (r ≡ next at (mapForm (pairs (itemsBetween from to frame (now (bytes .entry))))) (now (out .entry)))
         × (now (out .exit) ≡ put at (mapForm (pairs (itemsBetween from to frame (now (bytes .entry))))) (now (out .entry))) ⌝ }
@@ -94,14 +98,14 @@ fn put_frame(
     body: u32,
 ) -> usize
     requires { ⌜ ((size ≡ length (contents (headerItems frame) (bodyItems frame (now bytes))))
-        × ((header ≡ length (pairs (itemsBetween 0 3 frame (now bytes)))) × (body ≡ length (pairs (itemsBetween 3 17 frame (now bytes))))))
+        × ((header ≡ length (pairs (headerItems frame))) × (body ≡ length (pairs (bodyItems frame (now bytes))))))
         × (length (frameForm (contents (headerItems frame) (bodyItems frame (now bytes)))) ≤ length (now out)) ⌝ }
     ensures { λ r. ⌜ (r ≡ next 0 (frameForm (contents (headerItems frame) (bodyItems frame (now (bytes .entry))))) (now (out .entry)))
         × (now (out .exit) ≡ put 0 (frameForm (contents (headerItems frame) (bodyItems frame (now (bytes .entry))))) (now (out .entry))) ⌝ }
 {
     let a = msgpack_writing::write_tagged(out, 0, 0xce, size as u64, 4);
-    let b = put_map(out, a, frame, bytes, 0, 3, header);
-    put_map(out, b, frame, bytes, 3, 17, body)
+    let b = put_map(out, a, frame, bytes, 0, HEADER_KEYS, header);
+    put_map(out, b, frame, bytes, HEADER_KEYS, KNOWN_KEYS, body)
 }
 
 fn refused(number: u32) -> Written
@@ -121,6 +125,10 @@ pub fn write_frame(frame: Frame, bytes: &[u8], out: &mut [u8]) -> Written
     }
     let header = frame_judging::header_judged(frame, bytes);
     let body = frame_judging::body_judged(frame, bytes);
+    let keys = needs.keys;
+    let count = needs.count;
+    let there = frame_judging::holds_all(frame, bytes, &keys[..count]);
+    let size = frame_judging::contents_length(header.length, body.length);
     let sound = header.sound & body.sound;
     let suited = header.suited & body.suited;
     if !sound {
@@ -129,13 +137,10 @@ pub fn write_frame(frame: Frame, bytes: &[u8], out: &mut [u8]) -> Written
     if !suited {
         return refused(9);
     }
-    let keys = needs.keys;
-    let count = needs.count;
-    if !frame_judging::holds_all(frame, bytes, &keys[..count]) {
+    if !there {
         return refused(10);
     }
-    let size = frame_judging::contents_length(header.length, body.length);
-    if 60_000 < size {
+    if MAX_SIZE < size {
         return refused(3);
     }
     if out.len() < size + 5 {

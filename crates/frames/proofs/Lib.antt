@@ -1,2 +1,3 @@
 -- The laws of frames. Assumes nothing.
+pub mod Front
 pub mod Pairs

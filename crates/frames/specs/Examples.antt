@@ -14,7 +14,7 @@ use Rattle.msgpack_scalars.specs.Header.{counted, header}
 use Rattle.msgpack_writing.specs.Forms.{bigEndian, unsignedForm, mapHeader}
 use Rattle.frames.specs.declared.OptionalNumber.{OptionalNumber}
 use Rattle.frames.specs.declared.Frame.{Frame}
-use Rattle.frames.specs.Held.{all, view, natural, numberIn, opened, suits, numbered, heldIn, heldAt, numberHeld, placeHeld, encoded, present, locate}
+use Rattle.frames.specs.Held.{all, view, asNumber, numberIn, isHeader, suits, numberOrBytes, valueHeld, heldAt, numberHeld, placeHeld, encoded, isSome, locate}
 use Rattle.frames.specs.Keys.{headerItems, bodyItems, optional, codeIn, frameAt, nowhere, emptyFrame}
 use Rattle.frames.specs.Codes.{codes, among, isError, required}
 use Rattle.frames.specs.Maps.{keyed, entryAt, entries, entriesBy, entriesAt, keys, has, distinct, placed, find}
@@ -115,7 +115,7 @@ cases =
     ∷ []
 
 examples : map (λ (c : Case). frameRead (c .bytes) .number) cases ≡ map (λ (c : Case). c .number) cases
-unfolding frameRead bySize sizeOf sizeBy inFrame bodyEntries bodyValue byEntries byPlaces suited accept refuse whole given check find distinct has keys entriesAt entriesBy entries entryAt keyed required isError among codes emptyFrame frameAt codeIn optional headerItems bodyItems numberHeld placeHeld heldAt heldIn numbered suits opened numberIn natural view all value one container tooDeep byForm items sized payload sum formOf sameKind unsigned unsignedBy due dueIn naturalOf header counted
+unfolding frameRead bySize sizeOf sizeBy inFrame bodyEntries bodyValue byEntries byPlaces suited accept refuse whole given check find distinct has keys entriesAt entriesBy entries entryAt keyed required isError among codes emptyFrame frameAt codeIn optional headerItems bodyItems numberHeld placeHeld heldAt valueHeld numberOrBytes suits isHeader numberIn asNumber view all value one container tooDeep byForm items sized payload sum formOf sameKind unsigned unsignedBy due dueIn naturalOf header counted
 examples = refl
 
 -- ---- a record read, and written with its keys rising
@@ -150,7 +150,7 @@ selected =
     }
 
 select-read : frameRead select ≡ accept 32 selected
-unfolding frameRead bySize sizeOf sizeBy inFrame bodyEntries bodyValue byEntries byPlaces suited refuse whole given check find distinct has keys entriesAt entriesBy entries entryAt keyed required isError among codes emptyFrame frameAt codeIn optional headerItems bodyItems numberHeld placeHeld heldAt heldIn numbered suits opened numberIn natural view all value one container tooDeep byForm items sized payload sum formOf sameKind unsigned unsignedBy due dueIn naturalOf header counted
+unfolding frameRead bySize sizeOf sizeBy inFrame bodyEntries bodyValue byEntries byPlaces suited refuse whole given check find distinct has keys entriesAt entriesBy entries entryAt keyed required isError among codes emptyFrame frameAt codeIn optional headerItems bodyItems numberHeld placeHeld heldAt valueHeld numberOrBytes suits isHeader numberIn asNumber view all value one container tooDeep byForm items sized payload sum formOf sameKind unsigned unsignedBy due dueIn naturalOf header counted
 select-read = refl
 
 abbrev rising : Bytes
@@ -159,5 +159,5 @@ rising =
     ∷ 0xff ∷ 0xff ∷ 0x13 ∷ 0x00 ∷ 0x14 ∷ 0x00 ∷ 0x20 ∷ 0x91 ∷ 0xcd ∷ 0x01 ∷ 0x18 ∷ []
 
 select-written : (frameWrite selected select 32 ≡ written rising) × (frameWrite selected select 31 ≡ refused 18)
-unfolding frameWrite writeItems each sound isWhole frameForm contents mapForm flat pairs onto given check required isError among codes headerItems bodyItems numberHeld placeHeld suits opened view all encoded present locate value one container tooDeep byForm items sized payload sum formOf sameKind header counted joined bigEndian unsignedForm mapHeader
+unfolding frameWrite writeItems each sound isWhole frameForm contents mapForm flat pairs onto given check required isError among codes headerItems bodyItems numberHeld placeHeld suits isHeader view all encoded isSome locate value one container tooDeep byForm items sized payload sum formOf sameKind header counted joined bigEndian unsignedForm mapHeader
 select-written = (refl, refl)

@@ -6,15 +6,13 @@ use mathlib.Core.Option.{Option, none, some}
 use lib.Dec.{leb, eqb}
 use lib.ListN.{length, take, drop}
 use Rattle.msgpack_first_bytes.specs.Bytes.{Bytes, pick}
-use Rattle.msgpack_first_bytes.specs.declared.Form.{Form}
 use Rattle.msgpack_scalars.specs.Start.{stringBy, arrayBy}
 use Rattle.msgpack_scalars.specs.Integer.{unsigned}
 use Rattle.msgpack_scalars.specs.Header.{header}
-use Rattle.msgpack_scalars.specs.declared.Start.{Start}
 use Rattle.msgpack_scalars.specs.declared.Natural.{Natural}
 use Rattle.msgpack_scalars.specs.declared.Natural.the-variants.{Is, Cut, Other}
 use Rattle.msgpack_scalars.specs.declared.Header.{Header}
-use Rattle.msgpack_scalars.specs.declared.Header.the-variants.{Is as Opens, Other as Elsewhere}
+use Rattle.msgpack_scalars.specs.declared.Header.the-variants.{Is as HeaderIs, Other as NoHeader}
 use Rattle.msgpack_writing.specs.Forms.{unsignedForm}
 use Rattle.frames.specs.declared.OptionalNumber.{OptionalNumber}
 use Rattle.frames.specs.declared.Place.{Place}
@@ -38,19 +36,19 @@ unfoldable pub view : Bytes → Place → Bytes
 view s p = take (p .length) (drop (p .start) s)
 
 -- the number that a view is, in any width
-unfoldable pub natural : Natural → Option ℕ
-natural (Is n e) = some n
-natural Cut = none
-natural Other = none
+unfoldable pub asNumber : Natural → Option ℕ
+asNumber (Is n e) = some n
+asNumber Cut = none
+asNumber Other = none
 
 unfoldable pub numberIn : Bytes → Place → Option ℕ
-numberIn s p = pick (p .present) (natural (unsigned (view s p))) none
+numberIn s p = pick (p .present) (asNumber (unsigned (view s p))) none
 
 -- ---- 9: "a known key holds a wrong type or range". One check for the reader and the writer
 
-unfoldable pub opened : Header → Bool
-opened (Opens n e) = true
-opened Elsewhere = false
+unfoldable pub isHeader : Header → Bool
+isHeader (HeaderIs n e) = true
+isHeader NoHeader = false
 
 unfoldable pub suits : Rule → Held → Bool
 suits rule absent = true
@@ -58,26 +56,26 @@ suits rule outside = false
 suits (AtMost m) (number n) = leb n m
 suits (AtMost m) (bytes v) = false
 suits Array (number n) = false
-suits Array (bytes v) = opened (header arrayBy v)
+suits Array (bytes v) = isHeader (header arrayBy v)
 suits String (number n) = false
-suits String (bytes v) = opened (header stringBy v)
+suits String (bytes v) = isHeader (header stringBy v)
 suits Anything (number n) = false
 suits Anything (bytes v) = true
 
 -- ---- as it is read: from a place
 
-unfoldable pub numbered : Option ℕ → Bytes → Held
-numbered none v = bytes v
-numbered (some n) v = number n
+unfoldable pub numberOrBytes : Option ℕ → Bytes → Held
+numberOrBytes none v = bytes v
+numberOrBytes (some n) v = number n
 
-unfoldable pub heldIn : Rule → Bytes → Held
-heldIn (AtMost m) v = numbered (natural (unsigned v)) v
-heldIn Array v = bytes v
-heldIn String v = bytes v
-heldIn Anything v = bytes v
+unfoldable pub valueHeld : Rule → Bytes → Held
+valueHeld (AtMost m) v = numberOrBytes (asNumber (unsigned v)) v
+valueHeld Array v = bytes v
+valueHeld String v = bytes v
+valueHeld Anything v = bytes v
 
 unfoldable pub heldAt : Rule → Bytes → Place → Held
-heldAt rule s p = pick (p .present) (heldIn rule (view s p)) absent
+heldAt rule s p = pick (p .present) (valueHeld rule (view s p)) absent
 
 -- ---- as it is written: from a record's field, a place being of the bytes s
 
@@ -94,9 +92,9 @@ encoded outside = none
 encoded (number n) = some (unsignedForm n)
 encoded (bytes v) = some v
 
-unfoldable pub present : {A : Type 0} → Option A → Bool
-present none = false
-present (some x) = true
+unfoldable pub isSome : {A : Type 0} → Option A → Bool
+isSome none = false
+isSome (some x) = true
 
 -- ---- a known key, what it must hold, and what it holds
 

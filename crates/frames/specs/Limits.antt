@@ -1,4 +1,4 @@
--- The limits of document 01, 'The frame', each named once.
+-- The limits of document 01, 'The frame', each named once; `src/lib.rt` has the same as constants.
 use Prim.Native.Nat.{ℕ}
 
 -- "Size counts all bytes after itself, 1 to 60,000."
@@ -28,3 +28,10 @@ max64 = 18446744073709551615
 -- "unsigned, 0 or 1"
 abbrev pub maxBase : ℕ
 maxBase = 1
+
+-- how many known keys there are: in the header, and in all. The tables of `Keys` have so many lines
+abbrev pub headerKeys : ℕ
+headerKeys = 3
+
+abbrev pub knownKeys : ℕ
+knownKeys = 17

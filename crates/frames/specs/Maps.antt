@@ -13,7 +13,7 @@ use Rattle.msgpack_scalars.specs.Header.{header}
 use Rattle.msgpack_scalars.specs.declared.Natural.{Natural}
 use Rattle.msgpack_scalars.specs.declared.Natural.the-variants.{Is, Cut, Other}
 use Rattle.msgpack_scalars.specs.declared.Header.{Header}
-use Rattle.msgpack_scalars.specs.declared.Header.the-variants.{Is as Opens, Other as Elsewhere}
+use Rattle.msgpack_scalars.specs.declared.Header.the-variants.{Is as HeaderIs, Other as NoHeader}
 use Rattle.frames.specs.declared.Place.{Place}
 use Rattle.frames.specs.Limits.{maxKey}
 use Rattle.frames.specs.Keys.{nowhere}
@@ -46,8 +46,8 @@ entries d s (suc n) at =
     some (e ∷ es)))
 
 unfoldable pub entriesBy : ℕ → Bytes → ℕ → Header → Option (List Entry)
-entriesBy d s at (Opens n l) = entries d s n (at + l)
-entriesBy d s at Elsewhere = none
+entriesBy d s at (HeaderIs n l) = entries d s n (at + l)
+entriesBy d s at NoHeader = none
 
 -- the entries of the value at `at`: none also where it is no map
 unfoldable pub entriesAt : ℕ → Bytes → ℕ → Option (List Entry)

@@ -3,24 +3,25 @@
 use Prim.Native.Nat.{ℕ, _+_}
 use mathlib.Core.Bool.{Bool, _&&_}
 use mathlib.Core.List.{List, [], _∷_}
-use mathlib.Core.Option.{Option, none, some}
+use mathlib.Core.Option.{Option, some}
 use lib.Dec.{leb, eqb}
 use lib.ListN.{length, take, drop}
 use Rattle.msgpack_first_bytes.specs.Bytes.{Bytes, pick}
 use Rattle.msgpack_values.specs.Value.{value}
 use Rattle.msgpack_values.specs.declared.Read.{Read}
-use Rattle.msgpack_values.specs.declared.Read.the-variants.{Whole, Broken}
+use Rattle.msgpack_values.specs.declared.Read.the-variants.{Whole}
 use Rattle.msgpack_scalars.specs.Integer.{unsigned}
 use Rattle.msgpack_scalars.specs.declared.Natural.{Natural}
 use Rattle.msgpack_scalars.specs.declared.Natural.the-variants.{Is, Cut, Other}
 use Rattle.frames.specs.declared.Place.{Place}
 use Rattle.frames.specs.declared.Frame.{Frame}
+use Rattle.frames.specs.declared.Line.{Line}
 use Rattle.frames.specs.declared.FrameAnswer.{FrameAnswer}
 use Rattle.frames.specs.declared.Size.{Size}
 use Rattle.frames.specs.declared.Size.the-variants.{Promises, Refused}
 use Rattle.frames.specs.Limits.{maxSize, maxDepth, heldDepth}
-use Rattle.frames.specs.Held.{all, suits, heldAt, Item}
-use Rattle.frames.specs.Keys.{codeIn, frameAt, emptyFrame, headerKeys, bodyKeys}
+use Rattle.frames.specs.Held.{all, suits, heldAt}
+use Rattle.frames.specs.Keys.{codeIn, frameAt, emptyFrame, headerTable, bodyTable}
 use Rattle.frames.specs.Codes.{required}
 use Rattle.frames.specs.Maps.{Entry, entriesAt, keys, distinct, find}
 use Rattle.frames.specs.Cascade.{check, given, whole}
@@ -33,16 +34,16 @@ refuse n = record { number = n; length = 0; frame = emptyFrame }
 unfoldable pub accept : ℕ → Frame → FrameAnswer
 accept n r = record { number = 0; length = n; frame = r }
 
--- 9, over known keys, each where f says that it stands
-unfoldable pub suited : List Item → Bytes → (ℕ → Place) → Bool
-suited xs s f = all (λ (x : Item). suits (x .rule) (heldAt (x .rule) s (f (x .key)))) xs
+-- 9, over a table of known keys, each where f says that it stands
+unfoldable pub suited : List Line → Bytes → (ℕ → Place) → Bool
+suited xs s f = all (λ (x : Line). suits (x .rule) (heldAt (x .rule) s (f (x .key)))) xs
 
 -- 8 to 10, and the record: by where each key's value stands in the header (f) and in the body (g)
 unfoldable pub byPlaces : Bytes → (ℕ → Place) → (ℕ → Place) → FrameAnswer
 byPlaces s f g =
     given (refuse 8) (codeIn s f) (λ code.
     given (refuse 8) (required code) (λ needs.
-    check (refuse 9) (suited headerKeys s f && suited bodyKeys s g)
+    check (refuse 9) (suited headerTable s f && suited bodyTable s g)
     (check (refuse 10) (all (λ (k : ℕ). g k .present) needs)
     (accept (length s) (frameAt code s f g)))))
 

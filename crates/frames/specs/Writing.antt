@@ -1,11 +1,11 @@
 -- Writing a frame. "In writing: 8, 4 (a place that is outside its bytes, not one whole value, or deeper than 15), 9, 10, 3, 18."
-use Prim.Native.Nat.{ℕ, _+_, _*_}
+use Prim.Native.Nat.{ℕ, _+_}
 use mathlib.Core.Bool.{Bool, true, false, _&&_}
 use mathlib.Core.List.{List, [], _∷_, _++_}
 use mathlib.Core.Option.{Option, none, some}
 use lib.Dec.{leb, eqb}
-use lib.ListN.{length, take, drop}
-use Rattle.msgpack_first_bytes.specs.Bytes.{Bytes, pick}
+use lib.ListN.{length, drop}
+use Rattle.msgpack_first_bytes.specs.Bytes.{Bytes}
 use Rattle.msgpack_values.specs.Value.{value}
 use Rattle.msgpack_values.specs.Pieces.{joined}
 use Rattle.msgpack_values.specs.declared.Read.{Read}
@@ -13,7 +13,7 @@ use Rattle.msgpack_values.specs.declared.Read.the-variants.{Whole, Broken}
 use Rattle.msgpack_writing.specs.Forms.{tagged, mapHeader}
 use Rattle.frames.specs.declared.Frame.{Frame}
 use Rattle.frames.specs.Limits.{maxSize, heldDepth}
-use Rattle.frames.specs.Held.{all, Held, absent, outside, number, bytes, suits, encoded, present, Item, locate}
+use Rattle.frames.specs.Held.{all, Held, absent, outside, number, bytes, suits, encoded, isSome, Item, locate}
 use Rattle.frames.specs.Keys.{headerItems, bodyItems}
 use Rattle.frames.specs.Codes.{required}
 use Rattle.frames.specs.Cascade.{check, given}
@@ -78,7 +78,7 @@ writeItems code hs bs room =
     given (refused 8) (required code) (λ needs.
     check (refused 4) (each (λ (x : Item). sound (x .held)) hs bs)
     (check (refused 9) (each (λ (x : Item). suits (x .rule) (x .held)) hs bs)
-    (check (refused 10) (all (λ (k : ℕ). present (encoded (locate bs k))) needs)
+    (check (refused 10) (all (λ (k : ℕ). isSome (encoded (locate bs k))) needs)
     (check (refused 3) (leb (length (contents hs bs)) maxSize)
     (check (refused 18) (leb (length (frameForm (contents hs bs))) room)
     (written (frameForm (contents hs bs))))))))
@@ -95,9 +95,9 @@ pub record Call : Type 0 where
   pub buffer : Bytes
 
 -- "A refusal answers its number, with length 0 ...; buffers keep their bytes"; "bytes past the written length are unchanged"
-unfoldable pub seen : Bytes → Outcome → Call
-seen old (refused n) = record { number = n; length = 0; buffer = old }
-seen old (written w) = record { number = 0; length = length w; buffer = w ++ drop (length w) old }
+unfoldable pub callOf : Bytes → Outcome → Call
+callOf old (refused n) = record { number = n; length = 0; buffer = old }
+callOf old (written w) = record { number = 0; length = length w; buffer = w ++ drop (length w) old }
 
 unfoldable pub frameWriteCall : Frame → Bytes → Bytes → Call
-frameWriteCall r s old = seen old (frameWrite r s (length old))
+frameWriteCall r s old = callOf old (frameWrite r s (length old))

@@ -1,5 +1,24 @@
 // The record of a frame and what the calls on frames answer, for Rust and C alike; their definitions stand in specs/.
-ghost use mathlib.Core.Path.{_≡_};
+
+// Document 01's limits of frames; `specs/Limits.antt` has the same, each under its sentence.
+pub const MAX_SIZE: usize = 60_000;
+
+pub const MAX_DEPTH: usize = 16;
+
+pub const HELD_DEPTH: usize = 15;
+
+pub const MAX_KEY: u64 = 127;
+
+pub const MAX_32: u64 = 4_294_967_295;
+
+pub const MAX_64: u64 = 0xffff_ffff_ffff_ffff;
+
+pub const MAX_BASE: u64 = 1;
+
+// How many known keys there are: in the header, and in all.
+pub const HEADER_KEYS: usize = 3;
+
+pub const KNOWN_KEYS: usize = 17;
 
 // A number that a frame may leave out.
 #[repr(C)]
@@ -65,4 +84,10 @@ pub enum Rule {
     Array,
     String,
     Anything,
+}
+
+// A known key and what it must hold: a line of document 01's tables.
+pub struct Line {
+    pub key: u8,
+    pub rule: Rule,
 }

@@ -24,7 +24,7 @@ returns c =
     let b = c .before .before in
     let l = b .before .before .before .loop in
     let a = b .before .before .before .before .before .before .before .args in
-    sym (all-fails (λ (k : ℕ). placeIn (a .starts .now) (a .lengths .now) k .present) (a .keys .now) (l .i) (b .before .before .loop-test .taken)
+    sym (all-fails (λ (k : ℕ). placeIn (a .starts .now) (a .lengths .now) k .present) (a .keys .now) 0 (l .i) (b .before .before .loop-test .taken)
     (ap (λ (p : Place). p .present) (sym (b .place-in .ensures)) ∙ not-true _ (c .if1 .taken)))
     ∙ l .inv .1
 
@@ -34,7 +34,7 @@ loop-again c =
     let l = b .before .before .before .loop in
     let a = b .before .before .before .before .before .before .before .args in (
       omega arith,
-      all-goes-on (λ (k : ℕ). placeIn (a .starts .now) (a .lengths .now) k .present) (a .keys .now) (l .i) (b .before .before .loop-test .taken)
+      all-goes-on (λ (k : ℕ). placeIn (a .starts .now) (a .lengths .now) k .present) (a .keys .now) 0 (l .i) (b .before .before .loop-test .taken)
           (ap (λ (p : Place). p .present) (sym (b .place-in .ensures)) ∙ not-false _ (c .if1 .left))
           ∙ l .inv .1,
     )

@@ -7,5 +7,5 @@ use Rattle.frame_items.proofs.with_key.Statement.{statement}
 use Rattle.frame_items.proofs.with_key.Tie as tie
 
 pub with-key-spec : {M : Type 1} → statement M
-with-key-spec = tie.close (tie.spec (λ c. search needs) (λ c. capped-low (c .before .args .n + 1) (omega arith))
+with-key-spec = tie.close (tie.spec (λ c. search needs) (λ c. capped-low (c .before .args .n + 1) (omega arith)) (λ c. search needs)
     (λ c. capped-high (c .before .args .n + 1) (omega arith)))

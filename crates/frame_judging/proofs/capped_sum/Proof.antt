@@ -7,6 +7,6 @@ use Rattle.frame_judging.proofs.capped_sum.Statement.{statement}
 use Rattle.frame_judging.proofs.capped_sum.Tie as tie
 
 pub capped-sum-spec : {M : Type 1} → statement M
-capped-sum-spec = tie.close (tie.spec (λ c. let a = c .before .args in capped-high (a .a + a .b) (omega arith))
-    (λ c. let a = c .before .before .args in capped-high (a .a + a .b) (omega arith)) (λ c. search needs)
-    (λ c. let a = c .before .before .args in capped-low (a .a + a .b) (omega arith)))
+capped-sum-spec = tie.close (tie.spec (λ c. search needs) (λ c. let a = c .before .args in capped-high (a .a + a .b) (omega arith))
+    (λ c. search needs) (λ c. let a = c .before .before .args in capped-high (a .a + a .b) (omega arith))
+    (λ c. search needs) (λ c. let a = c .before .before .args in capped-low (a .a + a .b) (omega arith)))

@@ -2,7 +2,8 @@
 use mathlib.Core.Path.{_≡_, ap, _∙_}
 use Prim.Native.Nat.{_-_, _≤_}
 use mathlib.Core.List.{List}
-use Rattle.frames.specs.Held.{Held, encoded, present, Item, locate}
+use Rattle.frames.specs.Limits.{knownKeys}
+use Rattle.frames.specs.Held.{Held, encoded, isSome, Item, locate}
 use Rattle.frames.specs.Keys.{bodyItems}
 use Rattle.frame_items.specs.Content.{itemOf}
 use Rattle.frame_judging.specs.Parts.{itemsBetween}
@@ -13,10 +14,10 @@ use Rattle.frame_judging.proofs.holds.Statement.{statement}
 use Rattle.frame_judging.proofs.holds.Tie as tie
 
 abbrev Inv-loop : tie.InvT-loop
-Inv-loop frame bytes key i₀ i = (i ≤ 17) × (locate (itemsBetween i 17 frame bytes) key ≡ locate (bodyItems frame bytes) key)
+Inv-loop frame bytes key i₀ i = (i ≤ knownKeys) × (locate (itemsBetween i knownKeys frame bytes) key ≡ locate (bodyItems frame bytes) key)
 
 abbrev μ-loop : tie.MeasureT-loop
-μ-loop frame bytes key i₀ i = 17 - i
+μ-loop frame bytes key i₀ i = knownKeys - i
 
 loop-holds : tie.Need-loop-holds Inv-loop μ-loop
 loop-holds c = let a = c .before .args in (omega arith, ap (λ (xs : List Item). locate xs (a .key)) (body-run (a .frame) (a .bytes .now)))
@@ -29,7 +30,7 @@ returns c =
     let a = k .before .before .before .before .args in
     c .is-written .ensures
     ∙ is-present (a .bytes .now) (k .known-key .result .content)
-    ∙ ap (λ (h : Held). present (encoded h)) (locate-here (a .key) (run (a .frame) (a .bytes .now) (l .i) 17 (k .known-key .result) (k .known-key .ensures) (k .before .loop-test .taken) (omega arith)) (c .before .if1 .taken) ∙ l .inv .1)
+    ∙ ap (λ (h : Held). isSome (encoded h)) (locate-here (a .key) (run (a .frame) (a .bytes .now) (l .i) knownKeys (k .known-key .ensures) (k .before .loop-test .taken) (omega arith)) (c .before .if1 .taken) ∙ l .inv .1)
 
 loop-again : tie.Need-loop-again Inv-loop μ-loop
 unfolding itemOf
@@ -37,14 +38,14 @@ loop-again c =
     let k = c .before .before in
     let l = k .before .before .loop in
     let a = k .before .before .before .before .args in
-    (omega arith, locate-on (a .key) (run (a .frame) (a .bytes .now) (l .i) 17 (k .known-key .result) (k .known-key .ensures) (k .before .loop-test .taken) (omega arith)) (c .if1 .left) ∙ l .inv .1)
+    (omega arith, locate-on (a .key) (run (a .frame) (a .bytes .now) (l .i) knownKeys (k .known-key .ensures) (k .before .loop-test .taken) (omega arith)) (c .if1 .left) ∙ l .inv .1)
 
 returns-2 : tie.Need-returns-2 Inv-loop μ-loop
-unfolding locate present encoded
+unfolding locate isSome encoded
 returns-2 c =
     let l = c .before .loop in
     let a = c .before .before .before .args in
-    ap (λ (h : Held). present (encoded h)) (rw (no-run (a .frame) (a .bytes .now) (l .i) 17 (omega arith) (omega arith)) at (l .inv .1))
+    ap (λ (h : Held). isSome (encoded h)) (rw (no-run (a .frame) (a .bytes .now) (l .i) knownKeys (omega arith) (omega arith)) at (l .inv .1))
 
 pub holds-spec : {M : Type 1} → statement M
 holds-spec =

@@ -3,7 +3,7 @@ use mathlib.Core.Path.{_≡_, refl, sym, _∙_}
 use Prim.Native.Nat.{ℕ, _-_, _≤_}
 use borrow.Author.Tests.{not-true, not-false}
 use lib.ListN.{length, drop, drop-of-length-le}
-use Rattle.frames.specs.Held.{all, encoded, present, locate}
+use Rattle.frames.specs.Held.{all, encoded, isSome, locate}
 use Rattle.frames.specs.Keys.{bodyItems}
 use Rattle.frame_fields.proofs.Laws.{all-fails, all-goes-on}
 use borrow.Author.Needs.{needs}
@@ -12,7 +12,7 @@ use Rattle.frame_judging.proofs.holds_all.Statement.{statement}
 use Rattle.frame_judging.proofs.holds_all.Tie as tie
 
 abbrev Inv-loop : tie.InvT-loop
-Inv-loop frame bytes keys i₀ i = (i ≤ length keys) × (all (λ (k : ℕ). present (encoded (locate (bodyItems frame bytes) k))) (drop i keys) ≡ all (λ (k : ℕ). present (encoded (locate (bodyItems frame bytes) k))) keys)
+Inv-loop frame bytes keys i₀ i = (i ≤ length keys) × (all (λ (k : ℕ). isSome (encoded (locate (bodyItems frame bytes) k))) (drop i keys) ≡ all (λ (k : ℕ). isSome (encoded (locate (bodyItems frame bytes) k))) keys)
 
 abbrev μ-loop : tie.MeasureT-loop
 μ-loop frame bytes keys i₀ i = length keys - i
@@ -22,14 +22,14 @@ returns c =
     let b = c .before in
     let l = b .before .before .before .loop in
     let a = b .before .before .before .before .before .before .args in
-    sym (all-fails (λ (k : ℕ). present (encoded (locate (bodyItems (a .frame) (a .bytes .now)) k))) (a .keys .now) (l .i) (b .before .before .loop-test .taken) (sym (b .holds .ensures) ∙ not-true _ (c .if1 .taken))) ∙ l .inv .1
+    sym (all-fails (λ (k : ℕ). isSome (encoded (locate (bodyItems (a .frame) (a .bytes .now)) k))) (a .keys .now) 0 (l .i) (b .before .before .loop-test .taken) (sym (b .holds .ensures) ∙ not-true _ (c .if1 .taken))) ∙ l .inv .1
 
 loop-again : tie.Need-loop-again Inv-loop μ-loop
 loop-again c =
     let b = c .before in
     let l = b .before .before .before .loop in
     let a = b .before .before .before .before .before .before .args in
-    (omega arith, all-goes-on (λ (k : ℕ). present (encoded (locate (bodyItems (a .frame) (a .bytes .now)) k))) (a .keys .now) (l .i) (b .before .before .loop-test .taken) (sym (b .holds .ensures) ∙ not-false _ (c .if1 .left)) ∙ l .inv .1)
+    (omega arith, all-goes-on (λ (k : ℕ). isSome (encoded (locate (bodyItems (a .frame) (a .bytes .now)) k))) (a .keys .now) 0 (l .i) (b .before .before .loop-test .taken) (sym (b .holds .ensures) ∙ not-false _ (c .if1 .left)) ∙ l .inv .1)
 
 returns-2 : tie.Need-returns-2 Inv-loop μ-loop
 unfolding all

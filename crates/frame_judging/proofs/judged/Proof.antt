@@ -25,7 +25,7 @@ loop-again c =
     let k = w .before .before in
     let l = k .before .before .loop in
     let a = k .before .before .before .before .args in
-    let e = run (a .frame) (a .bytes .now) (l .i) (a .to) (k .known-key .result) (k .known-key .ensures) (k .before .loop-test .taken) (omega arith) in
+    let e = run (a .frame) (a .bytes .now) (l .i) (a .to) (k .known-key .ensures) (k .before .loop-test .taken) (omega arith) in
     ((omega arith, omega arith), next-turn (a .bytes .now) (k .known-key .result) e (l .inv .1) (w .before .is-sound .ensures) (w .content-suits .ensures) (p .pairs-of .ensures .0) (c .before .pair-length .ensures) (c .capped-sum .ensures))
 
 returns : tie.Need-returns Inv-loop μ-loop

@@ -1,24 +1,21 @@
 -- An unsigned number in its range. Assumes nothing.
-use mathlib.Core.Path.{sym, _∙_}
 use borrow.Author.Needs.{needs}
-use Rattle.frame_rules.proofs.Laws.{number-suits, cut-suits, other-suits}
+use Rattle.frames.specs.Held.{asNumber, numberOrBytes, valueHeld, suits}
+use Rattle.frames.proofs.Front.{number-front}
 use Rattle.frame_rules.proofs.at_most.Statement.{statement}
 use Rattle.frame_rules.proofs.at_most.Tie as tie
 
 returns : tie.Need-returns
-returns c =
-    let a = c .before .before .before .before .before .args in
-    number-suits (a .v .now) (a .limit) _ _ (sym (c .before .n .given .1) ∙ c .before .before .before .unsigned-at .ensures)
+unfolding suits valueHeld numberOrBytes asNumber
+returns c = rw (number-front _ (c .before .n .given .1) (c .before .before .before .unsigned-at .ensures))
 
 returns-2 : tie.Need-returns-2
-returns-2 c =
-    let a = c .before .before .before .before .args in
-    cut-suits (a .v .now) (a .limit) (sym (c .enum-told .given .1) ∙ c .before .before .unsigned-at .ensures)
+unfolding suits valueHeld numberOrBytes asNumber
+returns-2 c = rw (number-front _ (c .enum-told .given .1) (c .before .before .unsigned-at .ensures))
 
 returns-3 : tie.Need-returns-3
-returns-3 c =
-    let a = c .before .before .before .before .args in
-    other-suits (a .v .now) (a .limit) (sym (c .enum-told2 .given .1) ∙ c .before .before .unsigned-at .ensures)
+unfolding suits valueHeld numberOrBytes asNumber
+returns-3 c = rw (number-front _ (c .enum-told2 .given .1) (c .before .before .unsigned-at .ensures))
 
 pub at-most-spec : {M : Type 1} → statement M
 at-most-spec =

@@ -1,5 +1,10 @@
 -- The size, then the two maps. Assumes nothing.
-use mathlib.Core.Path.{refl, _∙_}
+use mathlib.Core.Path.{refl, sym, ap, _∙_}
+use mathlib.Core.List.{List}
+use lib.ListN.{length}
+use Rattle.frames.specs.Held.{Item}
+use Rattle.frames.specs.Writing.{pairs}
+use Rattle.frame_judging.proofs.Runs.{header-run, body-run}
 use Rattle.frame_writing.proofs.Turns.{headerForm, bodyForm, size-turn, turn-on, first-room}
 use native.Mathlib.Omega.{arith}
 use borrow.Author.Needs.{needs}
@@ -12,7 +17,7 @@ put-map-requires c κs =
     let s = w .before .before .before .before in
     let a = s .args in
     let t = size-turn (a .frame) (a .bytes .now) (a .size) (s .pre .0 .0) (s .pre .1) (w .write-tagged .ensures) in
-    (((omega arith, omega arith), s .pre .0 .1 .0), first-room (headerForm (a .frame) (a .bytes .now)) (bodyForm (a .frame) (a .bytes .now)) (w .write-tagged .result) refl (t .room))
+    (((omega arith, omega arith), s .pre .0 .1 .0 ∙ ap (λ (xs : List Item). length (pairs xs)) (sym (header-run (a .frame) (a .bytes .now)))), first-room (headerForm (a .frame) (a .bytes .now)) (bodyForm (a .frame) (a .bytes .now)) (w .write-tagged .result) refl (t .room))
 
 put-map-requires-2 : tie.Need-put-map-requires-2
 put-map-requires-2 c κs =
@@ -21,7 +26,7 @@ put-map-requires-2 c κs =
     let s = w .before .before .before .before in
     let a = s .args in
     let t = size-turn (a .frame) (a .bytes .now) (a .size) (s .pre .0 .0) (s .pre .1) (w .write-tagged .ensures) in
-    (((omega arith, omega arith), s .pre .0 .1 .1), turn-on t (headerForm (a .frame) (a .bytes .now)) refl (q .put-map .ensures) .room)
+    (((omega arith, omega arith), s .pre .0 .1 .1 ∙ ap (λ (xs : List Item). length (pairs xs)) (sym (body-run (a .frame) (a .bytes .now)))), turn-on t (headerForm (a .frame) (a .bytes .now)) refl (q .put-map .ensures) .room)
 
 returns : tie.Need-returns
 returns c =

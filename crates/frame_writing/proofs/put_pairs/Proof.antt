@@ -24,14 +24,14 @@ put-pair-requires c κs =
     let k = c .before in
     let l = k .before .before .loop in
     let a = k .before .before .before .before .before .args in
-    first-room (pairOf (k .known-key .result .key) (encoded (heldOf (a .bytes .now) (k .known-key .result .content)))) _ (l .a) (pair-first (a .bytes .now) (k .known-key .result) (run (a .frame) (a .bytes .now) (l .i) (a .to) (k .known-key .result) (k .known-key .ensures) (k .before .loop-test .taken) (omega arith))) (l .inv .1 .room)
+    first-room (pairOf (k .known-key .result .key) (encoded (heldOf (a .bytes .now) (k .known-key .result .content)))) _ (l .a) (pair-first (a .bytes .now) (k .known-key .result) (run (a .frame) (a .bytes .now) (l .i) (a .to) (k .known-key .ensures) (k .before .loop-test .taken) (omega arith))) (l .inv .1 .room)
 
 loop-again : tie.Need-loop-again Inv-loop μ-loop
 loop-again c =
     let k = c .before .before .before .before in
     let l = k .before .before .loop in
     let a = k .before .before .before .before .before .args in
-    (omega arith, turn-on (l .inv .1) (pairOf (k .known-key .result .key) (encoded (heldOf (a .bytes .now) (k .known-key .result .content)))) (pair-first (a .bytes .now) (k .known-key .result) (run (a .frame) (a .bytes .now) (l .i) (a .to) (k .known-key .result) (k .known-key .ensures) (k .before .loop-test .taken) (omega arith))) (c .before .before .put-pair .ensures))
+    (omega arith, turn-on (l .inv .1) (pairOf (k .known-key .result .key) (encoded (heldOf (a .bytes .now) (k .known-key .result .content)))) (pair-first (a .bytes .now) (k .known-key .result) (run (a .frame) (a .bytes .now) (l .i) (a .to) (k .known-key .ensures) (k .before .loop-test .taken) (omega arith))) (c .before .before .put-pair .ensures))
 
 returns : tie.Need-returns Inv-loop μ-loop
 unfolding pairBytes pairs flat joined
