@@ -17,7 +17,7 @@ pub fn alter(action: Action, list: &[u8], field: &[u8], work: &mut [u8]) -> Alte
         Action::Xor(v, _) => computing::bits_field(field, v, Gate::Xor, work),
         Action::Or(v, _) => computing::bits_field(field, v, Gate::Or, work),
         Action::Splice(position, count, start, end) => {
-            let argument = splicing::bytes_of(list, start, end);
+            let argument = parts::bytes_of(list, start, end);
             splicing::splice_field(field, position as usize, count as usize, argument, work)
         }
         Action::Assign(_, _) => Altered::Other,

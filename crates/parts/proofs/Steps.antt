@@ -1,20 +1,23 @@
 -- One part after the other: what the definition says after the parts that were read. Assumes nothing.
-use mathlib.Core.Path.{_≡_, refl, sym, subst, ap, _∙_}
+use mathlib.Core.Path.{_≡_, refl, sym, ap, _∙_}
+use mathlib.Core.Bool.{Bool, true, false}
 use Prim.Native.Nat.{ℕ, _-_, _<_, _≤_}
 use native.Mathlib.Omega.{arith}
 use borrow.Author.Tests.{le-leb, lt-leb}
-use lib.ListN.{drop}
-use Rattle.msgpack_first_bytes.specs.Bytes.{Bytes}
+use lib.Dec.{leb}
+use lib.ListN.{length, drop}
+use Rattle.msgpack_first_bytes.specs.Bytes.{Bytes, pick}
 use Rattle.msgpack_scalars.specs.declared.Int.{Int}
 use Rattle.msgpack_scalars.specs.declared.Int.the-variants.{FromZero, BelowZero}
-use Rattle.tuples.specs.Decoding.{fails, gets, Decoder, onGot, then, anyInteger, less, floor, atLeast, position}
-use Rattle.parts.specs.Part.{fieldBy, SignedAt, naturalIn, NaturalAt}
+use Rattle.tuples.specs.Decoding.{Got, fails, gets, Decoder, onGot, then, anyInteger, less, floor, atLeast, position}
+use Rattle.parts.specs.Part.{fieldBy, signedBy, naturalBy}
 use Rattle.parts.specs.declared.Field.{Field}
 use Rattle.parts.specs.declared.Field.the-variants.{At, Below}
 use Rattle.parts.specs.declared.Signed.{Signed}
 use Rattle.parts.specs.declared.Signed.the-variants.{Is as IsSigned, Bad as NoSigned}
 use Rattle.parts.specs.declared.Natural.{Natural}
 use Rattle.parts.specs.declared.Natural.the-variants.{Is as IsNatural, Bad as NoNatural}
+use Rattle.parts.proofs.Leaving.{Leaves, none, naturalIn, natural-back}
 
 module _ {A B : Type 0} (first : Decoder A) (next : A → Decoder B) {s : Bytes} where
   pub then-gets : {a : A} {r : Bytes} → gets a r ≡ first s → next a r ≡ then first next s
@@ -24,6 +27,10 @@ module _ {A B : Type 0} (first : Decoder A) (next : A → Decoder B) {s : Bytes}
   pub then-fails : fails ≡ first s → fails ≡ then first next s
   unfolding then onGot
   then-fails e = rw (← e)
+
+abbrev pub onSigned : (Int → ℕ → Natural) → Signed → Natural
+onSigned of (IsSigned z e) = of z e
+onSigned of NoSigned = NoNatural
 
 -- ---- a number, from which the base is taken off
 
@@ -40,66 +47,53 @@ module _ (base : ℕ) {z : Int} where
   unfolding less
   field-below q = rw q
 
--- ---- an integer that is held to a bound
+-- ---- an integer that is held to a bound, and one from which the base is taken off
 
-abbrev fielded : Field → Decoder ℕ
-fielded (At p) t = gets p t
-fielded Below t = fails
+abbrev pub leastIn : ℕ → Int → ℕ → Natural
+leastIn low (FromZero n) e = pick (leb low n) (IsNatural n e) NoNatural
+leastIn low (BelowZero m) e = NoNatural
 
-floor-field : (z : Int) (t : Bytes) → floor 0 z t ≡ fielded (fieldBy z) t
+abbrev pub fieldIn : Field → ℕ → Natural
+fieldIn (At p) e = IsNatural p e
+fieldIn Below e = NoNatural
+
+floor-is : (l : Bytes) (low : ℕ) (z : Int) (s : Bytes) → leastIn low z (length l - length s) ≡ naturalBy l (floor low z s)
 unfolding floor
-floor-field (FromZero n) t = simp (le-leb 0 n (omega arith))
-floor-field (BelowZero m) t = refl
+floor-is l low (FromZero n) s = go (leb low n)
+  where
+    go : (b : Bool) → pick b (IsNatural n (length l - length s)) NoNatural ≡ naturalBy l (pick b (gets n s) fails)
+    go true = refl
+    go false = refl
+floor-is l low (BelowZero m) s = refl
 
-module _ (l s : Bytes) {r : Signed} (h : SignedAt l r (anyInteger s)) where
-  -- what a part that was found says
-  signed-told : {x : Signed} → r ≡ x → SignedAt l x (anyInteger s)
-  signed-told q = subst (λ (x : Signed). SignedAt l x (anyInteger s)) q h
+field-least : (z : Int) (e : ℕ) → fieldIn (fieldBy z) e ≡ leastIn 0 z e
+field-least (FromZero n) e = rw (le-leb 0 n (omega arith))
+field-least (BelowZero m) e = refl
 
-  module _ (low : ℕ) where
-    pub least-none : r ≡ NoSigned → NaturalAt l NoNatural (atLeast low s)
-    unfolding atLeast
-    least-none q = (then-fails anyInteger (floor low) (signed-told q .0), omega arith)
+module _ (l s : Bytes) {r : Signed} (h : r ≡ signedBy l (anyInteger s)) where
+  -- what follows the integer is next
+  then-integer : (next : Int → Decoder ℕ) (of : Int → ℕ → Natural) → ((z : Int) (s : Bytes) → of z (length l - length s) ≡ naturalBy l (next z s))
+      → {x : Signed} → r ≡ x → onSigned of x ≡ naturalBy l (then anyInteger next s)
+  unfolding then onGot
+  then-integer next of f q = ap (onSigned of) (sym q ∙ h) ∙ go (anyInteger s)
+    where
+      go : (g : Got Int) → onSigned of (signedBy l g) ≡ naturalBy l (onGot g next)
+      go fails = refl
+      go (gets z s) = f z s
 
-    module _ {z : Int} {e : ℕ} (q : r ≡ IsSigned z e) where
-      pub least-below : {m : ℕ} → z ≡ BelowZero m → NaturalAt l NoNatural (atLeast low s)
-      unfolding atLeast floor
-      least-below w = (rw w at (then-gets anyInteger (floor low) (signed-told q .0)), omega arith)
+  pub least : (low : ℕ) {x : Signed} → r ≡ x → onSigned (leastIn low) x ≡ naturalBy l (atLeast low s)
+  unfolding atLeast
+  least low q = then-integer (floor low) (leastIn low) (floor-is l low) q
 
-      module _ {n : ℕ} (w : z ≡ FromZero n) where
-        floor-is : floor low (FromZero n) (drop e l) ≡ atLeast low s
-        unfolding atLeast
-        floor-is = rw w at (then-gets anyInteger (floor low) (signed-told q .0))
-
-        pub least-low : n < low → NaturalAt l NoNatural (atLeast low s)
-        unfolding floor
-        least-low k = (simp (lt-leb low n k) at floor-is, omega arith)
-
-        pub least-is : low ≤ n → NaturalAt l (IsNatural n e) (atLeast low s)
-        unfolding floor
-        least-is k = (simp (le-leb low n k) at floor-is, signed-told q .1)
-
-  module _ (base : ℕ) where
-    pub position-none : r ≡ NoSigned → NaturalAt l NoNatural (position base s)
-    unfolding position
-    position-none q = (then-fails anyInteger (λ z. floor 0 (less base z)) (signed-told q .0), omega arith)
-
-    module _ {z : Int} {e : ℕ} (q : r ≡ IsSigned z e) where
-      fielded-is : fielded (fieldBy (less base z)) (drop e l) ≡ position base s
-      unfolding position
-      fielded-is = sym (floor-field (less base z) (drop e l)) ∙ then-gets anyInteger (λ z. floor 0 (less base z)) (signed-told q .0)
-
-      pub position-below : {x : Field} → x ≡ fieldBy (less base z) → x ≡ Below → NaturalAt l NoNatural (position base s)
-      position-below i j = (ap (λ (x : Field). fielded x (drop e l)) (sym j ∙ i) ∙ fielded-is, omega arith)
-
-      pub position-is : {x : Field} {p : ℕ} → x ≡ fieldBy (less base z) → x ≡ At p → NaturalAt l (IsNatural p e) (position base s)
-      position-is i j = (ap (λ (x : Field). fielded x (drop e l)) (sym j ∙ i) ∙ fielded-is, signed-told q .1)
+  pub position-is : (base : ℕ) {x : Signed} → r ≡ x → onSigned (λ z. fieldIn (fieldBy (less base z))) x ≡ naturalBy l (position base s)
+  unfolding position
+  position-is base q = then-integer (λ z. floor 0 (less base z)) (λ z. fieldIn (fieldBy (less base z))) (λ z s. field-least (less base z) (length l - length s) ∙ floor-is l 0 (less base z) s) q
 
 -- ---- a part that was found, and then what follows it
 
-module _ {B : Type 0} (l s : Bytes) (d : Decoder ℕ) (next : ℕ → Decoder B) {r : Natural} (h : NaturalAt l r (d s)) where
+module _ {B : Type 0} (l s : Bytes) (d : Decoder ℕ) (k : Leaves none l (d s)) (next : ℕ → Decoder B) {r : Natural} (h : r ≡ naturalBy l (d s)) where
   told : {x : Natural} → r ≡ x → naturalIn l x ≡ d s
-  told q = ap (naturalIn l) (sym q) ∙ h .0
+  told q = ap (naturalIn l) (sym q ∙ h) ∙ natural-back l (d s) k
 
   pub after-natural : {n e : ℕ} → r ≡ IsNatural n e → next n (drop e l) ≡ then d next s
   after-natural q = then-gets d next (told q)

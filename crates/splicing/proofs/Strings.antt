@@ -29,36 +29,6 @@ use Rattle.parts.specs.declared.Span.the-variants.{Is as IsSpan, Bad as NoSpan}
 use Rattle.computing.specs.Altering.{within, Alters}
 use Rattle.computing.specs.declared.Altered.the-variants.{Is, Refused}
 
--- ---- bytes from a place up to another, held to the end
-
-pub clamped : (l : Bytes) (a e : ℕ) (f t : ℕ) → t ≡ min e (length l) → f ≡ min a t → part f t l ≡ part a e l
-clamped l a e f t i j = ⊎-elim all past (either e (length l))
-  where
-    none-left : t ≤ a → e ≤ a → part f t l ≡ part a e l
-    none-left h k =
-        let m : t - f ≡ 0 = omega arith in
-        let n : e - a ≡ 0 = omega arith in
-        rw (m, n)
-
-    all : e ≤ length l → part f t l ≡ part a e l
-    all h =
-        let m : t ≡ e = omega arith in
-        ⊎-elim (λ (k : a ≤ e). let n : f ≡ a = omega arith in rw (m, n)) (λ (k : e < a). none-left (omega arith) (omega arith)) (either a e)
-
-    past : length l < e → part f t l ≡ part a e l
-    past h =
-        let m : t ≡ length l = omega arith in
-        ⊎-elim
-        (λ (k : a ≤ length l).
-        let n : f ≡ a = omega arith in
-        let d : length (drop a l) ≤ t - a = rw length-drop (omega arith) in
-        let g : length (drop a l) ≤ e - a = rw length-drop (omega arith) in
-        rw n (take-all (t - a) (drop a l) d ∙ sym (take-all (e - a) (drop a l) g)))
-        (λ (k : length l < a).
-        let n : t - f ≡ 0 = omega arith in
-        rw (n, drop-of-length-le l {i = a} (omega arith), take-nil))
-        (either a (length l))
-
 -- ---- a string of three pieces
 
 within-held : (b : Bytes) (room : ℕ) → within b room ≡ true → (length b ≤ maxTuple) × (length b ≤ room)

@@ -56,7 +56,7 @@ fn lay_field(
         bytes,
         mark,
         f as u64,
-        splicing::bytes_of(scratch, extent.from, extent.to),
+        parts::bytes_of(scratch, extent.from, extent.to),
     )
 }
 

@@ -1,8 +1,8 @@
 -- Both places are held to the end. Assumes nothing.
-use Rattle.splicing.proofs.Strings.{clamped}
+use Rattle.parts.proofs.Reading.{clamped}
 use borrow.Author.Needs.{needs}
-use Rattle.splicing.proofs.bytes_of.Statement.{statement}
-use Rattle.splicing.proofs.bytes_of.Tie as tie
+use Rattle.parts.proofs.bytes_of.Statement.{statement}
+use Rattle.parts.proofs.bytes_of.Tie as tie
 
 returns : tie.Need-returns
 returns c =
