@@ -1,13 +1,19 @@
 // The numbers of an operation, each at a place of the bytes.
 use msgpack_scalars::Int;
 use msgpack_scalars::Integer;
-use parts::Field;
 use parts::Natural;
 use parts::Signed;
 ghost use mathlib.Core.Path.{_≡_};
 ghost use lib.ListN.{drop};
 ghost use Rattle.tuples.specs.Decoding.{less, anyInteger, atLeast, position};
-ghost use Rattle.parts.specs.Part.{fieldBy, signedBy, naturalBy};
+ghost use Rattle.parts.specs.Part.{signedBy, naturalBy};
+ghost use Rattle.numbers.specs.FieldNumber.{fieldBy};
+
+// A field by its number from 0, or a number below 0.
+pub enum Field {
+    At(u64),
+    Below,
+}
 
 // The field number without the index base.
 pub fn field_of(number: Int, base: u64) -> Field

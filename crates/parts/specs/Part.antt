@@ -3,21 +3,13 @@ use Prim.Native.Nat.{ℕ, _-_}
 use lib.ListN.{length, take, drop}
 use Rattle.msgpack_first_bytes.specs.Bytes.{Bytes}
 use Rattle.msgpack_scalars.specs.declared.Int.{Int}
-use Rattle.msgpack_scalars.specs.declared.Int.the-variants.{FromZero, BelowZero}
 use Rattle.tuples.specs.Decoding.{Got, fails, gets}
-use Rattle.parts.specs.declared.Field.{Field}
-use Rattle.parts.specs.declared.Field.the-variants.{At, Below}
 use Rattle.parts.specs.declared.Signed.{Signed}
 use Rattle.parts.specs.declared.Signed.the-variants.{Is as IsSigned, Bad as NoSigned}
 use Rattle.parts.specs.declared.Natural.{Natural}
 use Rattle.parts.specs.declared.Natural.the-variants.{Is as IsNatural, Bad as NoNatural}
 use Rattle.parts.specs.declared.Span.{Span}
 use Rattle.parts.specs.declared.Span.the-variants.{Is as IsSpan, Bad as NoSpan}
-
--- a field by its number, from which the index base is taken off
-abbrev pub fieldBy : Int → Field
-fieldBy (FromZero f) = At f
-fieldBy (BelowZero m) = Below
 
 -- the bytes from a up to e
 abbrev pub part : ℕ → ℕ → Bytes → Bytes

@@ -9,12 +9,6 @@ ghost use lib.ListN.{drop};
 ghost use Rattle.tuples.specs.Decoding.{anyValue, string, count, mark};
 ghost use Rattle.parts.specs.Part.{part, naturalBy, spanBy};
 
-// A field by its number from 0, or a number below 0.
-pub enum Field {
-    At(u64),
-    Below,
-}
-
 // An integer and the place after it.
 pub enum Signed {
     Is(Int, usize),

@@ -9,8 +9,8 @@ use Rattle.tuples.specs.declared.Refusal.{Refusal}
 use Rattle.tuples.specs.declared.Refusal.the-variants.{NoField}
 use Rattle.engine.specs.Held.{Left}
 use Rattle.engine.specs.declared.Edited.{Edited}
-use Rattle.parts.specs.declared.Field.{Field}
-use Rattle.parts.specs.declared.Field.the-variants.{At, Below}
+use Rattle.numbers.specs.declared.Field.{Field}
+use Rattle.numbers.specs.declared.Field.the-variants.{At, Below}
 use Rattle.operations.specs.Found.{actionIn}
 use Rattle.operations.specs.declared.Action.{Action}
 use Rattle.computing.specs.Altering.{Alters}

@@ -30,7 +30,8 @@ use Rattle.engine.specs.declared.Edited.{Edited}
 use Rattle.engine.specs.declared.Edited.the-variants.{Stop, Next}
 use Rattle.engine.proofs.Edits.{as-limited, edit-next}
 use Rattle.engine.proofs.Fits.{holding-in, field-count, field-is, held-over, fit-over}
-use Rattle.parts.specs.Part.{part, fieldBy}
+use Rattle.parts.specs.Part.{part}
+use Rattle.numbers.specs.FieldNumber.{fieldBy}
 use Rattle.operations.specs.Found.{actionIn}
 use Rattle.operations.specs.declared.Action.{Action}
 use Rattle.operations.specs.declared.Action.the-variants.{Plus, Minus, And, Xor, Or, Assign, Insert, Remove, Splice, Bad}

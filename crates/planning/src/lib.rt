@@ -2,7 +2,7 @@
 use computing::Altered;
 use engine::Edited;
 use operations::Action;
-use parts::Field;
+use numbers::Field;
 use tuples::MAX_FIELDS;
 use tuples::Refusal;
 ghost use mathlib.Core.Path.{_≡_};

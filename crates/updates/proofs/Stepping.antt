@@ -20,8 +20,9 @@ use Rattle.engine.specs.Held.{fieldsIn, Fit, Left}
 use Rattle.engine.specs.declared.Edited.{Edited}
 use Rattle.engine.specs.declared.Edited.the-variants.{Stop, Next}
 use Rattle.engine.proofs.Fits.{field-count}
-use Rattle.parts.specs.Part.{part, fieldBy}
-use Rattle.parts.specs.declared.Field.{Field}
+use Rattle.parts.specs.Part.{part}
+use Rattle.numbers.specs.FieldNumber.{fieldBy}
+use Rattle.numbers.specs.declared.Field.{Field}
 use Rattle.operations.specs.Found.{actionIn, ActionAt, endOf, opening, OpenedAt}
 use Rattle.operations.specs.declared.Ended.{Ended}
 use Rattle.operations.specs.declared.Ended.the-variants.{At, Bad as NotEnded}

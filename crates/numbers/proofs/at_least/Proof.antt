@@ -5,7 +5,7 @@ use lib.ListN.{drop}
 use Rattle.tuples.specs.Decoding.{atLeast}
 use Rattle.parts.specs.Part.{naturalBy}
 use Rattle.parts.specs.declared.Signed.{Signed}
-use Rattle.parts.proofs.Steps.{onSigned, leastIn, least}
+use Rattle.numbers.proofs.Numbers.{onSigned, leastIn, least}
 use borrow.Author.Needs.{needs}
 use Rattle.numbers.proofs.at_least.Statement.{statement}
 use Rattle.numbers.proofs.at_least.Tie as tie

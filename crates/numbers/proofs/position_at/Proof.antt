@@ -2,9 +2,10 @@
 use mathlib.Core.Path.{_≡_, sym, _∙_}
 use lib.ListN.{drop}
 use Rattle.tuples.specs.Decoding.{less, position}
-use Rattle.parts.specs.Part.{fieldBy, naturalBy}
+use Rattle.parts.specs.Part.{naturalBy}
+use Rattle.numbers.specs.FieldNumber.{fieldBy}
 use Rattle.parts.specs.declared.Signed.{Signed}
-use Rattle.parts.proofs.Steps.{onSigned, fieldIn, position-is}
+use Rattle.numbers.proofs.Numbers.{onSigned, fieldIn, position-is}
 use borrow.Author.Needs.{needs}
 use Rattle.numbers.proofs.position_at.Statement.{statement}
 use Rattle.numbers.proofs.position_at.Tie as tie
