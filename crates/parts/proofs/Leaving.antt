@@ -35,12 +35,15 @@ Ends l s = (p : Bytes) × (l ≡ p ++ s)
 ends-drop : (k : ℕ) (s : Bytes) → Ends s (drop k s)
 ends-drop k s = (take k s, sym (take-append-drop k s))
 
-ends-ends : {l s r : Bytes} → Ends l s → Ends s r → Ends l r
+pub ends-ends : {l s r : Bytes} → Ends l s → Ends s r → Ends l r
 ends-ends {l} {s} {r} (p, e) (q, f) = (p ++ q, e ∙ rw (f, append-assoc))
 
 -- where s begins
 pub rest-is : {l s : Bytes} → Ends l s → drop (length l - length s) l ≡ s
 rest-is {l} {s} (p, e) = rw e (drop-at p s (length (p ++ s) - length s) (simp length-append (omega arith)))
+
+pub rest-after : {l : Bytes} (b s : Bytes) → Ends l (b ++ s) → drop (length l - length s) l ≡ s
+rest-after b s h = rest-is (ends-ends h (b, refl))
 
 -- and where the bytes just before it do
 pub part-is : {l : Bytes} (b s : Bytes) → Ends l (b ++ s) → part (length l - length s - length b) (length l - length s) l ≡ b
@@ -54,8 +57,8 @@ abbrev pub Leaves : {A : Type 0} → (A → Bytes) → Bytes → Got A → Type 
 Leaves carried l fails = Unit {0}
 Leaves carried l (gets a s) = Ends l (carried a ++ s)
 
-abbrev pub Leaving : {A : Type 0} → (A → Bytes) → Decoder A → Type 0
-Leaving carried d = (s : Bytes) → Leaves carried s (d s)
+pub record Leaving {A : Type 0} (carried : A → Bytes) (d : Decoder A) : Type 0 where
+  pub leaves : (s : Bytes) → Leaves carried s (d s)
 
 -- no bytes, and bytes alone
 abbrev pub none : {A : Type 0} → A → Bytes
@@ -69,97 +72,97 @@ module _ {A : Type 0} (carried : A → Bytes) where
   leaves-from e fails h = tt
   leaves-from e (gets a r) h = ends-ends e h
 
-  pub leaves-at : (d : Decoder A) → Leaving carried d → (l : Bytes) (at : ℕ) → Leaves carried l (d (drop at l))
-  leaves-at d h l at = leaves-from (ends-drop at l) (d (drop at l)) (h (drop at l))
-
-  pub leaving-pick : (t : Bool) (d d' : Decoder A) → Leaving carried d → Leaving carried d' → Leaving carried (pick t d d')
-  leaving-pick true d d' h h' = h
-  leaving-pick false d d' h h' = h'
-
   leaves-pick : (t : Bool) (s : Bytes) (a : A) (r : Bytes) → Ends s (carried a ++ r) → Leaves carried s (pick t (gets a r) fails)
   leaves-pick true s a r h = h
   leaves-pick false s a r h = tt
 
+module _ {A : Type 0} {carried : A → Bytes} where
+  pub leaves-at : {d : Decoder A} → Leaving carried d → (l : Bytes) (at : ℕ) → Leaves carried l (d (drop at l))
+  leaves-at {d} h l at = leaves-from carried (ends-drop at l) (d (drop at l)) (h .leaves (drop at l))
+
   pub leaving-nothing : Leaving carried nothing
   unfolding nothing
-  leaving-nothing s = tt
+  leaving-nothing = record { leaves = λ s. tt }
 
-  module _ {B : Type 0} (carried' : B → Bytes) (d : Decoder A) (h : Leaving carried d) where
-    pub leaving-then : (next : A → Decoder B) → ((a : A) → Leaving carried' (next a)) → Leaving carried' (then d next)
-    unfolding then onGot
-    leaving-then next f s = go (d s) (h s)
-      where
-        go : (g : Got A) → Leaves carried s g → Leaves carried' s (onGot g next)
-        go fails k = tt
-        go (gets a r) k = leaves-from' (ends-ends k (carried a, refl)) (next a r) (f a r)
-          where
-            leaves-from' : Ends s r → (g : Got B) → Leaves carried' r g → Leaves carried' s g
-            leaves-from' e fails h = tt
-            leaves-from' e (gets b t) h = ends-ends e h
+  pub leaving-pick : (t : Bool) {d d' : Decoder A} → Leaving carried d → Leaving carried d' → Leaving carried (pick t d d')
+  leaving-pick true h h' = h
+  leaving-pick false h h' = h'
 
-    pub leaving-made : (f : A → B) → ((a : A) → carried' (f a) ≡ carried a) → Leaving carried' (made f d)
-    unfolding made onGot
-    leaving-made f e s = go (d s) (h s)
-      where
-        go : (g : Got A) → Leaves carried s g → Leaves carried' s (onGot g (λ a r. gets (f a) r))
-        go fails k = tt
-        go (gets a r) k = rw (e a) k
+module _ {A B : Type 0} {carried : A → Bytes} {carried' : B → Bytes} {d : Decoder A} (h : Leaving carried d) where
+  pub leaving-then : {next : A → Decoder B} → ((a : A) → Leaving carried' (next a)) → Leaving carried' (then d next)
+  unfolding then onGot
+  leaving-then {next} f = record { leaves = λ s. go s (d s) (h .leaves s) }
+    where
+      go : (s : Bytes) (g : Got A) → Leaves carried s g → Leaves carried' s (onGot g next)
+      go s fails k = tt
+      go s (gets a r) k = leaves-from carried' (ends-ends k (carried a, refl)) (next a r) (f a .leaves r)
+
+  pub leaving-made : (f : A → B) → ((a : A) → carried' (f a) ≡ carried a) → Leaving carried' (made f d)
+  unfolding made onGot
+  leaving-made f e = record { leaves = λ s. go s (d s) (h .leaves s) }
+    where
+      go : (s : Bytes) (g : Got A) → Leaves carried s g → Leaves carried' s (onGot g (λ a r. gets (f a) r))
+      go s fails k = tt
+      go s (gets a r) k = rw (e a) k
 
 -- ---- each part
 
 pub leaving-value : Leaving all anyValue
 unfolding anyValue valueFrom
-leaving-value s = go (value fieldDepth s)
+leaving-value = record { leaves = λ s. go s (value fieldDepth s) }
   where
-    go : (x : Read) → Leaves all s (valueFrom x s)
-    go (Whole k) = ([], sym (take-append-drop k s))
-    go (Broken p) = tt
+    go : (s : Bytes) (x : Read) → Leaves all s (valueFrom x s)
+    go s (Whole k) = ([], sym (take-append-drop k s))
+    go s (Broken p) = tt
 
 pub leaving-integer : Leaving none anyInteger
 unfolding anyInteger integerFrom
-leaving-integer s = go (integer s)
+leaving-integer = record { leaves = λ s. go s (integer s) }
   where
-    go : (x : Integer) → Leaves none s (integerFrom x s)
-    go (IsInt z e) = ends-drop e s
-    go Cut = tt
-    go OtherInt = tt
+    go : (s : Bytes) (x : Integer) → Leaves none s (integerFrom x s)
+    go s (IsInt z e) = ends-drop e s
+    go s Cut = tt
+    go s OtherInt = tt
 
 leaving-floor : (low : ℕ) (z : Int) → Leaving none (floor low z)
 unfolding floor
-leaving-floor low (FromZero n) s = leaves-pick none (leb low n) s n s ([], refl)
-leaving-floor low (BelowZero m) s = tt
+leaving-floor low (FromZero n) = record { leaves = λ s. leaves-pick none (leb low n) s n s ([], refl) }
+leaving-floor low (BelowZero m) = record { leaves = λ s. tt }
 
 pub leaving-least : (low : ℕ) → Leaving none (atLeast low)
 unfolding atLeast
-leaving-least low = leaving-then none none anyInteger leaving-integer (floor low) (leaving-floor low)
+leaving-least low = leaving-then leaving-integer (leaving-floor low)
 
 pub leaving-position : (base : ℕ) → Leaving none (position base)
 unfolding position
-leaving-position base = leaving-then none none anyInteger leaving-integer (λ z. floor 0 (less base z)) (λ z. leaving-floor 0 (less base z))
+leaving-position base = leaving-then leaving-integer (λ z. leaving-floor 0 (less base z))
 
 pub leaving-string : Leaving all string
 unfolding string stringFrom
-leaving-string s = go (header stringBy s)
+leaving-string = record { leaves = λ s. go s (header stringBy s) }
   where
-    go : (x : Header) → Leaves all s (stringFrom x s)
-    go (Is n e) =
+    go : (s : Bytes) (x : Header) → Leaves all s (stringFrom x s)
+    go s (Is n e) =
         leaves-pick all (leb (e + n) (length s)) s (take n (drop e s)) (drop (e + n) s)
         (take e s, rw (← drop-drop n e s, take-append-drop n (drop e s), take-append-drop e s))
-    go Other = tt
+    go s Other = tt
 
 pub leaving-count : Leaving none count
 unfolding count countFrom
-leaving-count s = go (header arrayBy s)
+leaving-count = record { leaves = λ s. go s (header arrayBy s) }
   where
-    go : (x : Header) → Leaves none s (countFrom x s)
-    go (Is n e) = ends-drop e s
-    go Other = tt
+    go : (s : Bytes) (x : Header) → Leaves none s (countFrom x s)
+    go s (Is n e) = ends-drop e s
+    go s Other = tt
 
 pub leaving-mark : Leaving none mark
 unfolding mark
-leaving-mark [] = tt
-leaving-mark (a ∷ []) = tt
-leaving-mark (a ∷ c ∷ s) = leaves-pick none (eqb a 0xa1) (a ∷ c ∷ s) c s (a ∷ c ∷ [], refl)
+leaving-mark = record { leaves = go }
+  where
+    go : (s : Bytes) → Leaves none s (mark s)
+    go [] = tt
+    go (a ∷ []) = tt
+    go (a ∷ c ∷ s) = leaves-pick none (eqb a 0xa1) (a ∷ c ∷ s) c s (a ∷ c ∷ [], refl)
 
 -- ---- the way back
 
@@ -177,4 +180,4 @@ spanIn l NoSpan = fails
 
 pub span-back : (l : Bytes) (g : Got Bytes) → Leaves all l g → spanIn l (spanBy l g) ≡ g
 span-back l fails h = refl
-span-back l (gets b s) h = rw (part-is b s h, rest-is (ends-ends h (b, refl)))
+span-back l (gets b s) h = rw (part-is b s h, rest-after b s h)
