@@ -2,7 +2,7 @@
 use mathlib.Core.Path.{_≡_, refl, sym, ap, _∙_}
 use mathlib.Core.Bool.{Bool, true, false}
 use mathlib.Core.List.{[], _∷_, _++_, append-assoc}
-use Prim.Native.Nat.{ℕ, _+_, _-_}
+use Prim.Native.Nat.{ℕ, _+_, _-_, _≤_}
 use native.Mathlib.Omega.{arith}
 use lib.Dec.{leb, eqb}
 use lib.ListN.{length, take, drop, length-append, take-append-drop}
@@ -181,3 +181,11 @@ spanIn l NoSpan = fails
 pub span-back : (l : Bytes) (g : Got Bytes) → Leaves all l g → spanIn l (spanBy l g) ≡ g
 span-back l fails h = refl
 span-back l (gets b s) h = rw (part-is b s h, rest-after b s h)
+
+-- its places are in order, and within l
+pub span-order : (l : Bytes) (g : Got Bytes) {a e : ℕ} → IsSpan a e ≡ spanBy l g → (a ≤ e) × (e ≤ length l)
+span-order l fails q = absurd (let z : _≡_ {A = ℕ} 0 1 = cc in omega arith)
+span-order l (gets b s) {a} {e} q =
+    let i : a ≡ length l - length s - length b = cc in
+    let j : e ≡ length l - length s = cc in
+    (omega arith, omega arith)

@@ -23,9 +23,10 @@ use Rattle.tuples.specs.Decoding.{Got, string}
 use Rattle.tuples.specs.Operation.{splice}
 use Rattle.tuples.specs.Edit.{Edit, refuse, put, spliced, became, suited, altered, editAt}
 use Rattle.tuples.specs.declared.Refusal.the-variants.{Unsuited, TooLarge}
-use Rattle.parts.specs.Part.{part, spanIn, SpanAt}
+use Rattle.parts.specs.Part.{part, spanBy}
 use Rattle.parts.specs.declared.Span.{Span}
 use Rattle.parts.specs.declared.Span.the-variants.{Is as IsSpan, Bad as NoSpan}
+use Rattle.parts.proofs.Leaving.{leaving-string, spanIn, span-back}
 use Rattle.computing.specs.Altering.{within, Alters}
 use Rattle.computing.specs.declared.Altered.the-variants.{Is, Refused}
 
@@ -87,9 +88,9 @@ splice-read : (p k : ℕ) (argument field : Bytes) → splice-by p k argument (s
 unfolding splice-by editAt altered
 splice-read p k argument field = refl
 
-module _ (p k : ℕ) (argument field : Bytes) {r : Span} (h : SpanAt field r (string field)) where
+module _ (p k : ℕ) (argument field : Bytes) {r : Span} (h : r ≡ spanBy field (string field)) where
   told : {x : Span} → r ≡ x → splice-by p k argument (spanIn field x) ≡ editAt (splice p k argument) 0 (field ∷ [])
-  told q = ap (splice-by p k argument) (ap (spanIn field) (sym q) ∙ h .0) ∙ splice-read p k argument field
+  told q = ap (splice-by p k argument) (ap (spanIn field) (sym q ∙ h) ∙ span-back field (string field) (leaving-string .leaves field)) ∙ splice-read p k argument field
 
   pub splice-unsuited : r ≡ NoSpan → refuse Unsuited ≡ editAt (splice p k argument) 0 (field ∷ [])
   unfolding splice-by suited

@@ -8,12 +8,12 @@ use Rattle.computing.proofs.bits_field.Tie as tie
 returns : tie.Need-returns
 returns c =
     let a = c .before .before .before .before .before .args in
-    rw (← (Numbers.bits-unsuited (a .gate) (a .v) (a .field .now) (c .before .before .at-least .ensures) (c .enum-told .given .1))) (refl, refl)
+    rw (← (Numbers.bits-unsuited (a .by) (a .v) (a .field .now) (c .before .before .at-least .ensures) (c .enum-told .given .1))) (refl, refl)
 
 returns-2 : tie.Need-returns-2
 returns-2 c =
     let a = c .before .before .before .before .before .before .before .before .before .before .before .args in
-    rw (← (Numbers.bits-is (a .gate) (a .v) (a .field .now) (c .before .before .before .before .before .before .before .before .at-least .ensures) (c .before .before .before .before .before .before .n .given .1) (c .before .before .before .before .through .ensures))) (c .before .before .put-number .ensures)
+    rw (← (Numbers.bits-is (a .by) (a .v) (a .field .now) (c .before .before .before .before .before .before .before .before .at-least .ensures) (c .before .before .before .before .before .before .n .given .1) (c .before .before .before .before .combine .ensures))) (c .before .before .put-number .ensures)
 
 pub bits-field-spec : {M : Type 1} → statement M
 bits-field-spec =
