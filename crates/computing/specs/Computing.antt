@@ -1,4 +1,4 @@
--- Computed numbers.
+-- Inner: computed numbers.
 use Prim.Native.Nat.{ℕ}
 use mathlib.Core.Bool.{Bool}
 use mathlib.Core.List.{[], _∷_}

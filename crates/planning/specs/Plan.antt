@@ -1,4 +1,4 @@
--- What an operation plans on the fields that scratch array and table hold, and what its plan does to them.
+-- Inner: what an operation plans on the fields that scratch array and table hold, and what its plan does to them.
 use Prim.Native.Nat.{ℕ, zero, suc, _+_, _-_, _<_, _≤_, min}
 use mathlib.Core.Path.{_≡_}
 use mathlib.Core.List.{List, [], _∷_}

@@ -5,7 +5,7 @@ use native.Mathlib.Omega.{arith}
 use Rattle.tuples.specs.Tuple.{fieldsOf}
 use Rattle.engine.specs.Held.{fieldsIn, Fit}
 use Rattle.operations.proofs.Listing.{Judged, good, bad}
-use Rattle.updates.proofs.Calls.{told, not-loaded, loaded, begin, bad-tuple, bad-list, not-filled, carries}
+use Rattle.updates.proofs.Calls.{fills-at-end, not-loaded, loaded, begin, bad-tuple, bad-list, not-filled, carries}
 use borrow.Author.Needs.{needs}
 use Rattle.updates.proofs.carrying.carry_out.Statement.{statement}
 use Rattle.updates.proofs.carrying.carry_out.Tie as tie
@@ -64,6 +64,6 @@ pub carry-out-spec : {M : Type 1} → statement M
 carry-out-spec =
     tie.close (tie.spec (λ c κs. search needs) (λ c. search needs) (λ c. search needs) (λ c. search needs) returns
     (λ c κs. search needs) (λ c. search needs) (λ c. search needs) (λ c. search needs) returns-2 run-requires
-    (λ c κs. let r = c .before .before .before .before .before .before in told _ _ _ _ _ _ _ _ (r .run .result) (r .run .ensures))
+    (λ c κs. let r = c .before .before .before .before .before .before in fills-at-end _ _ _ _ _ _ _ _ (r .run .result) (r .run .ensures))
     (λ c. search needs) (λ c. search needs) (λ c. search needs) returns-3 (λ c. search needs) (λ c. search needs)
     (λ c. search needs) returns-4)
