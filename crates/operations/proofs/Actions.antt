@@ -5,12 +5,12 @@ use Prim.Native.Nat.{ℕ, _-_}
 use borrow.Author.Tests.{ne-eqb}
 use lib.Dec.{eqb}
 use lib.ListN.{length, drop}
-use Rattle.msgpack_first_bytes.specs.Bytes.{Bytes, pick}
+use Rattle.msgpack_first_bytes.specs.Bytes.{Bytes}
 use Rattle.msgpack_scalars.specs.declared.Int.{Int}
-use Rattle.tuples.specs.Decoding.{Got, fails, gets, Decoder, onGot, then, made, nothing, anyInteger, atLeast, position, string, anyValue}
+use Rattle.tuples.specs.Decoding.{Got, fails, gets, Decoder, onGot, then, made, nothing, atLeast, position, string}
 use Rattle.tuples.specs.Operation.{plus, minus, and, xor, or, assign, insert, remove, splice, three, five, actionOf}
 use Rattle.tuples.specs.Operation as Law
-use Rattle.parts.specs.Part.{part, found, signedBy, naturalBy, spanBy}
+use Rattle.parts.specs.Part.{part, found, naturalBy, spanBy}
 use Rattle.operations.specs.Found.{placed, actionBy, endOf, actionIn}
 use Rattle.parts.specs.declared.Signed.{Signed}
 use Rattle.parts.specs.declared.Signed.the-variants.{Is as IsSigned, Bad as NoSigned}

@@ -80,7 +80,7 @@ operations-end base l at =
 -- ---- the front of the list
 
 -- by the count that was read
-abbrev frontOf : Natural → Listed
+abbrev pub frontOf : Natural → Listed
 frontOf (IsNatural n e) = pick (leb n maxOperations) (Good n e) Bad
 frontOf NoNatural = Bad
 
@@ -98,23 +98,13 @@ module _ (base : ℕ) (l : Bytes) where
       and-false false = refl
 
   module _ (k : base ≤ 1) (j : length l ≤ maxList) {r : Natural} (g : r ≡ naturalBy l (count l)) where
-    fronted : {x : Natural} → r ≡ x → frontOf x ≡ front base l
+    pub fronted : {x : Natural} → r ≡ x → frontOf x ≡ front base l
     unfolding front
     fronted q = rw (le-leb base 1 k, le-leb (length l) maxList j) (ap frontOf (sym q ∙ g) ∙ go (count l))
       where
         go : (g : Got ℕ) → frontOf (naturalBy l g) ≡ frontBy l g
         go fails = refl
         go (gets n s) = refl
-
-    pub uncounted-refused : r ≡ NoNatural → Bad ≡ front base l
-    uncounted-refused q = fronted q
-
-    module _ {n e : ℕ} (q : r ≡ IsNatural n e) where
-      pub many-refused : maxOperations < n → Bad ≡ front base l
-      many-refused h = rw (lt-leb n maxOperations h) at (fronted q)
-
-      pub front-is : n ≤ maxOperations → Good n e ≡ front base l
-      front-is h = rw (le-leb n maxOperations h) at (fronted q)
 
 -- ---- what a caller of `front_of` goes on from
 

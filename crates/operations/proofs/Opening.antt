@@ -22,7 +22,7 @@ use Rattle.operations.specs.declared.Decoded.the-variants.{Is as IsDecod
 use Rattle.operations.specs.declared.Ended.{Ended}
 use Rattle.operations.specs.declared.Ended.the-variants.{At, Bad as NotEnded}
 use Rattle.parts.proofs.Steps.{then-gets, then-fails, after-natural, no-natural}
-use Rattle.parts.proofs.Leaving.{Ends, Leaves, Leaving, none, rest-is, rest-after, leaves-at, leaving-then, leaving-made, leaving-integer, leaving-count, leaving-mark}
+use Rattle.parts.proofs.Leaving.{Leaves, Leaving, none, rest-is, rest-after, leaves-at, leaving-then, leaving-made, leaving-integer, leaving-count, leaving-mark}
 use Rattle.operations.proofs.Actions.{bytesOf, action-back, end-placed, leaving-action}
 
 abbrev numbered : ℕ → ℕ → Decoder Opening

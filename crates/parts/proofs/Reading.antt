@@ -29,7 +29,7 @@ use Rattle.msgpack_scalars.specs.declared.Integer.the-variants.{Is as IsInt, Cu
 use Rattle.msgpack_scalars.specs.declared.Header.{Header}
 use Rattle.msgpack_scalars.specs.declared.Header.the-variants.{Is as IsHeader, Other as OtherHeader}
 use Rattle.msgpack_writing.proofs.Choice.{by-leb, either}
-use Rattle.tuples.specs.Decoding.{fails, gets, valueFrom, anyValue, integerFrom, anyInteger, stringFrom, string, countFrom, count, mark}
+use Rattle.tuples.specs.Decoding.{valueFrom, anyValue, integerFrom, anyInteger, stringFrom, string, countFrom, count, mark}
 use Rattle.parts.specs.Part.{part, signedBy as signedPart, naturalBy, spanBy}
 use Rattle.parts.specs.declared.Signed.{Signed as SignedPart}
 use Rattle.parts.specs.declared.Signed.the-variants.{Is as IsSigned, Bad as NoSigned}

@@ -1,5 +1,5 @@
 -- One part after the other: what the definition says after the parts that were read. Assumes nothing.
-use mathlib.Core.Path.{_≡_, refl, sym, ap, _∙_}
+use mathlib.Core.Path.{_≡_, sym, ap, _∙_}
 use Prim.Native.Nat.{ℕ}
 use lib.ListN.{drop}
 use Rattle.msgpack_first_bytes.specs.Bytes.{Bytes}

@@ -1,8 +1,8 @@
 // An operation planned on the fields that are held, and the plan performed.
 use computing::Altered;
 use engine::Edited;
-use operations::Action;
 use numbers::Field;
+use operations::Action;
 use tuples::MAX_FIELDS;
 use tuples::Refusal;
 ghost use mathlib.Core.Path.{_≡_};

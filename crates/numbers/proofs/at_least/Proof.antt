@@ -1,5 +1,5 @@
 -- An integer, held to its bound. Assumes nothing.
-use mathlib.Core.Path.{_≡_, _∙_}
+use mathlib.Core.Path.{_≡_}
 use borrow.Author.Tests.{le-leb, lt-leb}
 use lib.ListN.{drop}
 use Rattle.tuples.specs.Decoding.{atLeast}

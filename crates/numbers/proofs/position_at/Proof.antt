@@ -1,5 +1,5 @@
 -- An integer, from which the base is taken off. Assumes nothing.
-use mathlib.Core.Path.{_≡_, sym, _∙_}
+use mathlib.Core.Path.{_≡_}
 use lib.ListN.{drop}
 use Rattle.tuples.specs.Decoding.{less, position}
 use Rattle.parts.specs.Part.{naturalBy}

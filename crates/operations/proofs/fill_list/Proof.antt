@@ -34,15 +34,10 @@ loop-again c =
     operations-next (a .base) (o .loop .left - 1) l (o .loop .at) (c .before .before .before .operation-end .ensures) (c .before .end .given .1)
     ∙ ap (λ (n : ℕ). isSome (operations (a .base) n (drop (o .loop .at) l))) (sym e) ∙ o .loop .inv
 
-returns-2 : tie.Need-returns-2 Inv-loop μ-loop
-returns-2 c =
-    let o = c .before in
-    let a = o .before .before .args in
-    let l = a .list .now in
-    let e : 0 ≡ o .loop .left = omega arith in
-    operations-end (a .base) l (o .loop .at) ∙ ap (λ (n : ℕ). isSome (operations (a .base) n (drop (o .loop .at) l))) e ∙ o .loop .inv
-
 pub fill-list-spec : {M : Type 1} → statement M
 fill-list-spec =
-    tie.close (tie.spec Inv-loop μ-loop (λ c. refl) (λ c κs. search needs) (λ c. search needs) (λ c. search needs) returns
-    (λ c. omega arith) (λ c. omega arith) loop-again returns-2)
+    tie.close (tie.spec Inv-loop μ-loop (λ c. refl) (λ c κs. search needs) (λ c. search needs) (λ c. search needs) returns (λ c. omega arith)
+    (λ c. omega arith) loop-again
+    (λ c. let o = c .before in let a = o .before .before .args in let l = a .list .now in
+    let e : 0 ≡ o .loop .left = omega arith in operations-end (a .base) l (o .loop .at) ∙ ap
+    (λ (n : ℕ). isSome (operations (a .base) n (drop (o .loop .at) l))) e ∙ o .loop .inv))

@@ -8,12 +8,6 @@ use borrow.Author.Needs.{needs}
 use Rattle.operations.proofs.opening_at.Statement.{statement}
 use Rattle.operations.proofs.opening_at.Tie as tie
 
-returns-2 : tie.Need-returns-2
-returns-2 c =
-    let n = c .before .before .before .before .before .before in
-    let a = n .before .before .args in
-    opening-unmarked (a .list .now) (a .at) (n .count-at .ensures) (c .before .before .before .before .count .given .1) (c .before .before .mark-at .ensures) (c .enum-told2 .given .1)
-
 -- by the number x that was read
 told : (c : tie.After-any-integer) {x : Signed} → c .any-integer .result ≡ x → (let n = c .before .before .before .before .before .before .before .before in let a = n .before .before .args in
     openedBySigned (c .before .before .before .before .before .before .count .given .0 .0) (c .before .before .mark .given .0 .0) x ≡ openedBy (a .list .now) (opening (drop (a .at) (a .list .now))))
@@ -27,5 +21,9 @@ pub opening-at-spec : {M : Type 1} → statement M
 opening-at-spec =
     tie.close (tie.spec (λ c κs. search needs) (λ c. search needs) (λ c. search needs)
     (λ c. let a = c .before .before .before .before .args in opening-uncounted (a .list .now) (a .at) (c .before .before .count-at .ensures) (c .enum-told .given .1))
-    (λ c κs. search needs) (λ c. search needs) (λ c. search needs) returns-2 (λ c κs. search needs) (λ c. search needs)
-    (λ c. search needs) (λ c. told (c .before .before) (c .enum-told3 .given .1)) (λ c. told (c .before .before .before) (c .before .number .given .1)))
+    (λ c κs. search needs) (λ c. search needs) (λ c. search needs)
+    (λ c. let n = c .before .before .before .before .before .before in let a = n .before .before .args in opening-unmarked
+    (a .list .now) (a .at) (n .count-at .ensures) (c .before .before .before .before .count .given .1)
+    (c .before .before .mark-at .ensures) (c .enum-told2 .given .1))
+    (λ c κs. search needs) (λ c. search needs) (λ c. search needs) (λ c. told (c .before .before) (c .enum-told3 .given .1))
+    (λ c. told (c .before .before .before) (c .before .number .given .1)))

@@ -53,18 +53,12 @@ remove-arm : (c : tie.After-at-least4) {x : Natural} → c .at-least4 .result �
 unfolding three
 remove-arm c q = rw (c .before .match .keys8) (argument IsNatural NoNatural _ _ (atLeast 1) (byNatural Remove) remove (λ _ _. refl) refl (c .at-least4 .ensures) q)
 
-returns-17 : tie.Need-returns-17
-returns-17 c =
-    let r = c .match .rest in
-    three-other _ _ _ (r .0 .0 .0 .0 .0 .0 .0 .1) (r .0 .0 .0 .0 .0 .0 .1) (r .0 .0 .0 .0 .0 .1) (r .0 .0 .0 .0 .1) (r .0 .0 .0 .1) (r .0 .0 .1) (r .0 .1) (r .1)
-
 pub three-at-spec : {M : Type 1} → statement M
 three-at-spec =
-    tie.close (tie.spec (λ c κs. search needs) (λ c. search needs) (λ c. search needs) (λ c κs. search needs) (λ c. search needs)
-    (λ c. search needs) (λ c κs. search needs) (λ c. search needs) (λ c. search needs) (λ c κs. search needs)
-    (λ c. search needs) (λ c. search needs) (λ c κs. search needs) (λ c. search needs) (λ c. search needs)
-    (λ c κs. search needs) (λ c. search needs) (λ c. search needs) (λ c κs. search needs) (λ c. search needs)
-    (λ c. search needs) (λ c κs. search needs) (λ c. search needs) (λ c. search needs)
+    tie.close (tie.spec (λ c κs. search needs) (λ c. search needs) (λ c. search needs) (λ c κs. search needs) (λ c. search needs) (λ c. search needs)
+    (λ c κs. search needs) (λ c. search needs) (λ c. search needs) (λ c κs. search needs) (λ c. search needs) (λ c. search needs)
+    (λ c κs. search needs) (λ c. search needs) (λ c. search needs) (λ c κs. search needs) (λ c. search needs) (λ c. search needs)
+    (λ c κs. search needs) (λ c. search needs) (λ c. search needs) (λ c κs. search needs) (λ c. search needs) (λ c. search needs)
     (λ c. plus-arm (c .before .before .before) (c .before .z .given .1))
     (λ c. plus-arm (c .before .before) (c .enum-told .given .1))
     (λ c. minus-arm (c .before .before .before) (c .before .z2 .given .1))
@@ -80,4 +74,6 @@ three-at-spec =
     (λ c. insert-arm (c .before .before .before) (c .before .start2 .given .1))
     (λ c. insert-arm (c .before .before) (c .enum-told7 .given .1))
     (λ c. remove-arm (c .before .before .before) (c .before .n4 .given .1))
-    (λ c. remove-arm (c .before .before) (c .enum-told8 .given .1)) returns-17)
+    (λ c. remove-arm (c .before .before) (c .enum-told8 .given .1))
+    (λ c. let r = c .match .rest in three-other _ _ _ (r .0 .0 .0 .0 .0 .0 .0 .1) (r .0 .0 .0 .0 .0 .0 .1) (r .0 .0 .0 .0 .0 .1)
+    (r .0 .0 .0 .0 .1) (r .0 .0 .0 .1) (r .0 .0 .1) (r .0 .1) (r .1)))

@@ -16,16 +16,11 @@ told : (c : tie.After-header-at) {x : Header} → c .header-at .result ≡ x
     → (let a = c .before .before .args in stringOf (a .s .now) x ≡ spanBy (a .s .now) (string (drop (a .at) (a .s .now))))
 told c q = let a = c .before .before .args in ap (stringOf (a .s .now)) (sym q) ∙ string-at (a .s .now) (a .at) (c .header-at .ensures)
 
-sub-if1 : tie.Need-sub-if1
-sub-if1 c =
-    let h = c .before .before .before in
-    let a = h .before .before .args in
-    let k = string-start (a .s .now) (a .at) (h .header-at .ensures) (c .before .n .given .1) in
-    omega arith
-
 pub string-at-spec : {M : Type 1} → statement M
 string-at-spec =
     tie.close (tie.spec (λ c κs. search needs) (λ c. search needs) (λ c. search needs) (λ c. told (c .before .before) (c .enum-told .given .1))
-    sub-if1 (λ c. rw (lt-leb _ _ (c .if1 .taken)) at (told (c .before .before .before .before) (c .before .before .n .given .1)))
+    (λ c. let h = c .before .before .before in let a = h .before .before .args in
+    let k = string-start (a .s .now) (a .at) (h .header-at .ensures) (c .before .n .given .1) in omega arith)
+    (λ c. rw (lt-leb _ _ (c .if1 .taken)) at (told (c .before .before .before .before) (c .before .before .n .given .1)))
     (λ c. search needs)
     (λ c. rw (le-leb _ _ (c .if1 .left)) at (told (c .before .before .before .before) (c .before .before .n .given .1))))
