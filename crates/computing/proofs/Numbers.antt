@@ -11,8 +11,7 @@ use borrow.Author.Tests.{le-leb, lt-leb, lt-ltb, le-ltb}
 use lib.IntN.{ℤ, pos, negsuc, _+ℤ_, _-ℤ_}
 use lib.ListN.{length, drop}
 use Rattle.msgpack_first_bytes.specs.Bytes.{Bytes, pick}
-use Rattle.msgpack_scalars.specs.declared.Int.{Int}
-use Rattle.msgpack_scalars.specs.declared.Int.the-variants.{FromZero, BelowZero}
+use Rattle.msgpack_scalars.specs.declared.Int.{Int, the-variants.FromZero, the-variants.BelowZero}
 use Rattle.msgpack_writing.specs.Put.{next}
 use Rattle.msgpack_writing.specs.Put as Written
 use Rattle.msgpack_writing.proofs.Choice.{either, by-ltb}
@@ -23,16 +22,13 @@ use Rattle.tuples.specs.Decoding.{Got, fails, gets, anyInteger, atLeast}
 use Rattle.tuples.specs.Edit.{Edit, refuse, put, asℤ, ranged, became, suited, altered, editAt}
 use Rattle.tuples.specs.declared.Refusal.the-variants.{Unsuited, TooLarge}
 use Rattle.parts.specs.Part.{signedBy, naturalBy}
-use Rattle.parts.specs.declared.Signed.{Signed}
-use Rattle.parts.specs.declared.Signed.the-variants.{Is as IsSigned, Bad as NoSigned}
-use Rattle.parts.specs.declared.Natural.{Natural}
-use Rattle.parts.specs.declared.Natural.the-variants.{Is as IsNatural, Bad as NoNatural}
+use Rattle.parts.specs.declared.Signed.{Signed, the-variants.Is as IsSigned, the-variants.Bad as NoSigned}
+use Rattle.parts.specs.declared.Natural.{Natural, the-variants.Is as IsNatural, the-variants.Bad as NoNatural}
 use Rattle.sums.specs.Range.{inRange}
 use Rattle.sums.specs.declared.Sum.{Sum}
 use Rattle.computing.specs.Altering.{Alters}
 use Rattle.computing.specs.Computing.{formOf, SumInRange, bitwiseOf, bitsEdit, sumEdit}
-use Rattle.computing.specs.declared.Bitwise.{Bitwise}
-use Rattle.computing.specs.declared.Bitwise.the-variants.{And, Xor, Or}
+use Rattle.computing.specs.declared.Bitwise.{Bitwise, the-variants.And, the-variants.Xor, the-variants.Or}
 use Rattle.computing.specs.declared.Altered.the-variants.{Is, Refused}
 
 -- ---- a number at the front of the work array

@@ -7,17 +7,13 @@ use borrow.Author.Tests.{le-leb, lt-leb}
 use lib.Dec.{leb}
 use lib.ListN.{length}
 use Rattle.msgpack_first_bytes.specs.Bytes.{Bytes, pick}
-use Rattle.msgpack_scalars.specs.declared.Int.{Int}
-use Rattle.msgpack_scalars.specs.declared.Int.the-variants.{FromZero, BelowZero}
+use Rattle.msgpack_scalars.specs.declared.Int.{Int, the-variants.FromZero, the-variants.BelowZero}
 use Rattle.tuples.specs.Decoding.{Got, fails, gets, Decoder, onGot, then, anyInteger, less, floor, atLeast, position}
 use Rattle.parts.specs.Part.{signedBy, naturalBy}
-use Rattle.parts.specs.declared.Signed.{Signed}
-use Rattle.parts.specs.declared.Signed.the-variants.{Is as IsSigned, Bad as NoSigned}
-use Rattle.parts.specs.declared.Natural.{Natural}
-use Rattle.parts.specs.declared.Natural.the-variants.{Is as IsNatural, Bad as NoNatural}
+use Rattle.parts.specs.declared.Signed.{Signed, the-variants.Is as IsSigned, the-variants.Bad as NoSigned}
+use Rattle.parts.specs.declared.Natural.{Natural, the-variants.Is as IsNatural, the-variants.Bad as NoNatural}
 use Rattle.numbers.specs.FieldNumber.{fieldBy}
-use Rattle.numbers.specs.declared.Field.{Field}
-use Rattle.numbers.specs.declared.Field.the-variants.{At, Below}
+use Rattle.numbers.specs.declared.Field.{Field, the-variants.At, the-variants.Below}
 
 abbrev pub onSigned : (Int → ℕ → Natural) → Signed → Natural
 onSigned of (IsSigned z e) = of z e

@@ -12,14 +12,10 @@ use Rattle.tuples.specs.Operation.{plus, minus, and, xor, or, assign, insert, r
 use Rattle.tuples.specs.Operation as Law
 use Rattle.parts.specs.Part.{part, found, naturalBy, spanBy}
 use Rattle.operations.specs.Found.{placed, actionBy, endOf, actionIn}
-use Rattle.parts.specs.declared.Signed.{Signed}
-use Rattle.parts.specs.declared.Signed.the-variants.{Is as IsSigned, Bad as NoSigned}
-use Rattle.parts.specs.declared.Natural.{Natural}
-use Rattle.parts.specs.declared.Natural.the-variants.{Is as IsNatural, Bad as NoNatural}
-use Rattle.parts.specs.declared.Span.{Span}
-use Rattle.parts.specs.declared.Span.the-variants.{Is as IsSpan, Bad as NoSpan}
-use Rattle.operations.specs.declared.Action.{Action}
-use Rattle.operations.specs.declared.Action.the-variants.{Splice, Bad as NoAction}
+use Rattle.parts.specs.declared.Signed.{Signed, the-variants.Is as IsSigned, the-variants.Bad as NoSigned}
+use Rattle.parts.specs.declared.Natural.{Natural, the-variants.Is as IsNatural, the-variants.Bad as NoNatural}
+use Rattle.parts.specs.declared.Span.{Span, the-variants.Is as IsSpan, the-variants.Bad as NoSpan}
+use Rattle.operations.specs.declared.Action.{Action, the-variants.Splice, the-variants.Bad as NoAction}
 use Rattle.operations.specs.declared.Ended.the-variants.{At as EndedAt}
 use Rattle.parts.proofs.Steps.{after-natural, no-natural}
 use Rattle.parts.proofs.Leaving.{Ends, Leaves, Leaving, none, rest-is, rest-after, part-is, leaves-at, leaving-nothing, leaving-pick, leaving-then, leaving-made, leaving-value, leaving-integer, leaving-least, leaving-position, leaving-string}

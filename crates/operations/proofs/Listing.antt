@@ -18,12 +18,9 @@ use Rattle.tuples.specs.Operation.{Operation, operation, before, andMore, opera
 use Rattle.parts.specs.Part.{naturalBy}
 use Rattle.operations.specs.Found.{endedBy}
 use Rattle.operations.specs.Listing.{isSome, frontBy, front}
-use Rattle.parts.specs.declared.Natural.{Natural}
-use Rattle.parts.specs.declared.Natural.the-variants.{Is as IsNatural, Bad as NoNatural}
-use Rattle.operations.specs.declared.Ended.{Ended}
-use Rattle.operations.specs.declared.Ended.the-variants.{At, Bad as NotEnded}
-use Rattle.operations.specs.declared.Listed.{Listed}
-use Rattle.operations.specs.declared.Listed.the-variants.{Good, Bad}
+use Rattle.parts.specs.declared.Natural.{Natural, the-variants.Is as IsNatural, the-variants.Bad as NoNatural}
+use Rattle.operations.specs.declared.Ended.{Ended, the-variants.At, the-variants.Bad as NotEnded}
+use Rattle.operations.specs.declared.Listed.{Listed, the-variants.Good, the-variants.Bad}
 use Rattle.parts.proofs.Leaving.{Leaves, Leaving, none as noBytes, rest-is, rest-after, leaves-at, leaving-count}
 use Rattle.operations.proofs.Opening.{leaving-operation}
 

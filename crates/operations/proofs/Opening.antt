@@ -10,17 +10,12 @@ use Rattle.tuples.specs.Operation.{Operation, actionOf, operation}
 use Rattle.tuples.specs.Operation as Law
 use Rattle.parts.specs.Part.{signedBy, naturalBy}
 use Rattle.operations.specs.Found.{placed, actionBy, endOf, actionIn, Opening, opening, openedBy, Sent, sent, decodedBy, endedBy}
-use Rattle.parts.specs.declared.Signed.{Signed}
-use Rattle.parts.specs.declared.Signed.the-variants.{Is as IsSigned, Bad as NoSigned}
-use Rattle.parts.specs.declared.Natural.{Natural}
-use Rattle.parts.specs.declared.Natural.the-variants.{Is as IsNatural, Bad as NoNatural}
-use Rattle.operations.specs.declared.Opened.{Opened}
-use Rattle.operations.specs.declared.Opened.the-variants.{Is as IsOpened, Bad as NotOpened}
+use Rattle.parts.specs.declared.Signed.{Signed, the-variants.Is as IsSigned, the-variants.Bad as NoSigned}
+use Rattle.parts.specs.declared.Natural.{Natural, the-variants.Is as IsNatural, the-variants.Bad as NoNatural}
+use Rattle.operations.specs.declared.Opened.{Opened, the-variants.Is as IsOpened, the-variants.Bad as NotOpened}
 use Rattle.operations.specs.declared.Action.{Action}
-use Rattle.operations.specs.declared.Decoded.{Decoded}
-use Rattle.operations.specs.declared.Decoded.the-variants.{Is as IsDecoded, Bad as NotDecoded}
-use Rattle.operations.specs.declared.Ended.{Ended}
-use Rattle.operations.specs.declared.Ended.the-variants.{At, Bad as NotEnded}
+use Rattle.operations.specs.declared.Decoded.{Decoded, the-variants.Is as IsDecoded, the-variants.Bad as NotDecoded}
+use Rattle.operations.specs.declared.Ended.{Ended, the-variants.At, the-variants.Bad as NotEnded}
 use Rattle.parts.proofs.Steps.{then-gets, then-fails, after-natural, no-natural}
 use Rattle.parts.proofs.Leaving.{Leaves, Leaving, none, rest-is, rest-after, leaves-at, leaving-then, leaving-made, leaving-integer, leaving-count, leaving-mark}
 use Rattle.operations.proofs.Actions.{bytesOf, action-back, end-placed, leaving-action}

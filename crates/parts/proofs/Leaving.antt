@@ -9,24 +9,18 @@ use lib.ListN.{length, take, drop, length-append, take-append-drop}
 use lib.Seq.{drop-drop, take-at, drop-at}
 use Rattle.msgpack_first_bytes.specs.Bytes.{Bytes, pick}
 use Rattle.msgpack_values.specs.Value.{value}
-use Rattle.msgpack_values.specs.declared.Read.{Read}
-use Rattle.msgpack_values.specs.declared.Read.the-variants.{Whole, Broken}
+use Rattle.msgpack_values.specs.declared.Read.{Read, the-variants.Whole, the-variants.Broken}
 use Rattle.msgpack_scalars.specs.Integer.{integer}
 use Rattle.msgpack_scalars.specs.Start.{stringBy, arrayBy}
 use Rattle.msgpack_scalars.specs.Header.{header}
-use Rattle.msgpack_scalars.specs.declared.Int.{Int}
-use Rattle.msgpack_scalars.specs.declared.Int.the-variants.{FromZero, BelowZero}
-use Rattle.msgpack_scalars.specs.declared.Integer.{Integer}
-use Rattle.msgpack_scalars.specs.declared.Integer.the-variants.{Is as IsInt, Cut, Other as OtherInt}
-use Rattle.msgpack_scalars.specs.declared.Header.{Header}
-use Rattle.msgpack_scalars.specs.declared.Header.the-variants.{Is, Other}
+use Rattle.msgpack_scalars.specs.declared.Int.{Int, the-variants.FromZero, the-variants.BelowZero}
+use Rattle.msgpack_scalars.specs.declared.Integer.{Integer, the-variants.Is as IsInt, the-variants.Cut, the-variants.Other as OtherInt}
+use Rattle.msgpack_scalars.specs.declared.Header.{Header, the-variants.Is, the-variants.Other}
 use Rattle.tuples.specs.Limits.{fieldDepth}
 use Rattle.tuples.specs.Decoding.{Got, fails, gets, Decoder, onGot, then, made, nothing, valueFrom, anyValue, integerFrom, anyInteger, less, floor, atLeast, position, stringFrom, string, countFrom, count, mark}
 use Rattle.parts.specs.Part.{part, naturalBy, spanBy}
-use Rattle.parts.specs.declared.Natural.{Natural}
-use Rattle.parts.specs.declared.Natural.the-variants.{Is as IsNatural, Bad as NoNatural}
-use Rattle.parts.specs.declared.Span.{Span}
-use Rattle.parts.specs.declared.Span.the-variants.{Is as IsSpan, Bad as NoSpan}
+use Rattle.parts.specs.declared.Natural.{Natural, the-variants.Is as IsNatural, the-variants.Bad as NoNatural}
+use Rattle.parts.specs.declared.Span.{Span, the-variants.Is as IsSpan, the-variants.Bad as NoSpan}
 
 -- l ends with s
 abbrev pub Ends : Bytes → Bytes → Type 0

@@ -10,33 +10,24 @@ use lib.ListN.{length, take, drop, getD, length-take, length-drop, drop-of-lengt
 use lib.Seq.{drop-cons, take-all, take-nil}
 use Rattle.msgpack_first_bytes.specs.Bytes.{Bytes, pick}
 use Rattle.msgpack_first_bytes.specs.FirstByte.{formOf}
-use Rattle.msgpack_first_bytes.specs.declared.Kind.{Kind}
-use Rattle.msgpack_first_bytes.specs.declared.Kind.the-variants.{Unsigned, Signed}
+use Rattle.msgpack_first_bytes.specs.declared.Kind.{Kind, the-variants.Unsigned, the-variants.Signed}
 use Rattle.msgpack_first_bytes.specs.declared.Form.{Form}
 use Rattle.msgpack_values.specs.Value.{shift, value}
-use Rattle.msgpack_values.specs.declared.Read.{Read}
-use Rattle.msgpack_values.specs.declared.Read.the-variants.{Whole, Broken}
+use Rattle.msgpack_values.specs.declared.Read.{Read, the-variants.Whole, the-variants.Broken}
 use Rattle.msgpack_values.proofs.Local.{value-good, value-pos}
 use Rattle.msgpack_scalars.specs.Start.{scalarOf, stringBy, arrayBy}
 use Rattle.msgpack_scalars.specs.Integer.{dueIn, due, unsignedBy, unsigned, signedBy, signed, adding, integer, shiftInteger}
 use Rattle.msgpack_scalars.specs.Header.{counted, header, shiftHeader}
-use Rattle.msgpack_scalars.specs.declared.Start.{Start}
-use Rattle.msgpack_scalars.specs.declared.Start.the-variants.{Here, Elsewhere}
-use Rattle.msgpack_scalars.specs.declared.Due.{Due}
-use Rattle.msgpack_scalars.specs.declared.Due.the-variants.{More, Cut as CutDue, Other as OtherDue}
-use Rattle.msgpack_scalars.specs.declared.Integer.{Integer}
-use Rattle.msgpack_scalars.specs.declared.Integer.the-variants.{Is as IsInt, Cut as CutInt, Other as OtherInt}
-use Rattle.msgpack_scalars.specs.declared.Header.{Header}
-use Rattle.msgpack_scalars.specs.declared.Header.the-variants.{Is as IsHeader, Other as OtherHeader}
+use Rattle.msgpack_scalars.specs.declared.Start.{Start, the-variants.Here, the-variants.Elsewhere}
+use Rattle.msgpack_scalars.specs.declared.Due.{Due, the-variants.More, the-variants.Cut as CutDue, the-variants.Other as OtherDue}
+use Rattle.msgpack_scalars.specs.declared.Integer.{Integer, the-variants.Is as IsInt, the-variants.Cut as CutInt, the-variants.Other as OtherInt}
+use Rattle.msgpack_scalars.specs.declared.Header.{Header, the-variants.Is as IsHeader, the-variants.Other as OtherHeader}
 use Rattle.msgpack_writing.proofs.Choice.{by-leb, either}
 use Rattle.tuples.specs.Decoding.{valueFrom, anyValue, integerFrom, anyInteger, stringFrom, string, countFrom, count, mark}
 use Rattle.parts.specs.Part.{part, signedBy as signedPart, naturalBy, spanBy}
-use Rattle.parts.specs.declared.Signed.{Signed as SignedPart}
-use Rattle.parts.specs.declared.Signed.the-variants.{Is as IsSigned, Bad as NoSigned}
-use Rattle.parts.specs.declared.Natural.{Natural}
-use Rattle.parts.specs.declared.Natural.the-variants.{Is as IsNatural, Bad as NoNatural}
-use Rattle.parts.specs.declared.Span.{Span}
-use Rattle.parts.specs.declared.Span.the-variants.{Is as IsSpan, Bad as NoSpan}
+use Rattle.parts.specs.declared.Signed.{Signed as SignedPart, the-variants.Is as IsSigned, the-variants.Bad as NoSigned}
+use Rattle.parts.specs.declared.Natural.{Natural, the-variants.Is as IsNatural, the-variants.Bad as NoNatural}
+use Rattle.parts.specs.declared.Span.{Span, the-variants.Is as IsSpan, the-variants.Bad as NoSpan}
 
 -- k bytes from a place on, and what is left after them
 ends : (l : Bytes) (at k : ℕ) → 1 ≤ k → k ≤ length (drop at l) → at + k ≡ length l - length (drop k (drop at l))

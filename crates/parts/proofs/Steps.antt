@@ -5,8 +5,7 @@ use lib.ListN.{drop}
 use Rattle.msgpack_first_bytes.specs.Bytes.{Bytes}
 use Rattle.tuples.specs.Decoding.{fails, gets, Decoder, onGot, then}
 use Rattle.parts.specs.Part.{naturalBy}
-use Rattle.parts.specs.declared.Natural.{Natural}
-use Rattle.parts.specs.declared.Natural.the-variants.{Is as IsNatural, Bad as NoNatural}
+use Rattle.parts.specs.declared.Natural.{Natural, the-variants.Is as IsNatural, the-variants.Bad as NoNatural}
 use Rattle.parts.proofs.Leaving.{Leaves, none, naturalIn, natural-back}
 
 module _ {A B : Type 0} (first : Decoder A) (next : A → Decoder B) {s : Bytes} where

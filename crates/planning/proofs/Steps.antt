@@ -11,8 +11,7 @@ use borrow.Author.Tests.{lt-ltb, le-ltb, le-leb, lt-leb, leb-true, leb-false, eq
 use lib.Dec.{leb, eqb}
 use lib.ListN.{length, getD}
 use Rattle.msgpack_first_bytes.specs.Bytes.{Bytes, pick}
-use Rattle.msgpack_scalars.specs.declared.Int.{Int}
-use Rattle.msgpack_scalars.specs.declared.Int.the-variants.{FromZero, BelowZero}
+use Rattle.msgpack_scalars.specs.declared.Int.{Int, the-variants.FromZero, the-variants.BelowZero}
 use Rattle.msgpack_writing.proofs.Choice.{by-leb, by-ltb, either}
 use Rattle.msgpack_values.specs.Pieces.{joined}
 use Rattle.tuples.specs.Limits.{maxFields, maxTuple}
@@ -21,13 +20,11 @@ use Rattle.tuples.specs.Decoding.{Got, fails, gets, Decoder, less}
 use Rattle.tuples.specs.Operation.{plus, minus, and, xor, or, assign, insert, remove, splice}
 use Rattle.tuples.specs.Operation as Law
 use Rattle.tuples.specs.Edit.{Edit, refuse, put, add, became, suited, altered, editAt, fieldAt, planOf, Step, stop, next, spliced, fits, limited, perform}
-use Rattle.tuples.specs.declared.Refusal.{Refusal}
-use Rattle.tuples.specs.declared.Refusal.the-variants.{NoField, TooLarge}
+use Rattle.tuples.specs.declared.Refusal.{Refusal, the-variants.NoField, the-variants.TooLarge}
 use Rattle.tuples.proofs.Cases.{both-hold}
 use Rattle.tuples.proofs.Legal.{Fits, plain-length}
 use Rattle.engine.specs.Held.{fieldsIn, limitedTo, edit, Fit, answerOf, scratchOf, tableOf, Left}
-use Rattle.engine.specs.declared.Edited.{Edited}
-use Rattle.engine.specs.declared.Edited.the-variants.{Stop, Next}
+use Rattle.engine.specs.declared.Edited.{Edited, the-variants.Stop, the-variants.Next}
 use Rattle.engine.proofs.Edits.{as-limited, edit-next}
 use Rattle.engine.proofs.Fits.{holding-in, field-count, field-is, held-over, fit-over}
 use Rattle.parts.specs.Part.{part}
@@ -36,13 +33,11 @@ use Rattle.operations.specs.Found.{actionIn}
 use Rattle.operations.specs.declared.Action.{Action}
 use Rattle.operations.specs.declared.Action.the-variants.{Plus, Minus, And, Xor, Or, Assign, Insert, Remove, Splice, Bad}
 use Rattle.computing.specs.Altering.{within, Unless, alteredBy, workBy, Alters}
-use Rattle.computing.specs.declared.Altered.{Altered}
-use Rattle.computing.specs.declared.Altered.the-variants.{Is, Refused, Other}
+use Rattle.computing.specs.declared.Altered.{Altered, the-variants.Is, the-variants.Refused, the-variants.Other}
 use Rattle.altering.specs.Edits.{editOf}
 use Rattle.altering.proofs.Edits.{altered-is, altered-refused}
 use Rattle.planning.specs.Plan.{wholly, fieldBytes, alone, orElse, plannedAt, workAt, planned, workAfter, performed, Means}
-use Rattle.planning.specs.declared.Planned.{Planned}
-use Rattle.planning.specs.declared.Planned.the-variants.{Refuse, Alter, Bring, Cut}
+use Rattle.planning.specs.declared.Planned.{Planned, the-variants.Refuse, the-variants.Alter, the-variants.Bring, the-variants.Cut}
 
 never : {A : Type 0} → _≡_ {A = ℕ} 0 1 → A
 never e = absurd (omega arith)

@@ -22,8 +22,7 @@ use Rattle.tuples.specs.Operation.{splice}
 use Rattle.tuples.specs.Edit.{Edit, refuse, put, spliced, became, suited, altered, editAt}
 use Rattle.tuples.specs.declared.Refusal.the-variants.{Unsuited, TooLarge}
 use Rattle.parts.specs.Part.{part, spanBy}
-use Rattle.parts.specs.declared.Span.{Span}
-use Rattle.parts.specs.declared.Span.the-variants.{Is as IsSpan, Bad as NoSpan}
+use Rattle.parts.specs.declared.Span.{Span, the-variants.Is as IsSpan, the-variants.Bad as NoSpan}
 use Rattle.parts.proofs.Leaving.{leaving-string, spanIn, span-back}
 use Rattle.computing.specs.Altering.{within, Alters}
 use Rattle.computing.specs.declared.Altered.the-variants.{Is, Refused}

@@ -20,21 +20,18 @@ use Rattle.tuples.specs.Decoding.{Got, fails, gets}
 use Rattle.tuples.specs.Operation.{Operation, operation, before, andMore, operations, operationsOf}
 use Rattle.tuples.specs.Edit.{planOf, Plan, plans, step, Step, stop, next, perform, Run, done, run, onward, undoOf, onStep, inverse}
 use Rattle.tuples.specs.Call.{Outcome, refusal, bytes, judged, onRun, updateOf, update, undoListOf, undo, Result, delivered, updateCall, undoCall}
-use Rattle.tuples.specs.declared.Refusal.{Refusal}
-use Rattle.tuples.specs.declared.Refusal.the-variants.{BadTuple, BadList}
+use Rattle.tuples.specs.declared.Refusal.{Refusal, the-variants.BadTuple, the-variants.BadList}
 use Rattle.tuples.proofs.Legal.{plain-length}
 use Rattle.tuples.proofs.Tuple.{fields-legal, fields-short}
 use Rattle.engine.specs.Held.{fieldsIn, endOf, lengthsOf, over, Fit}
 use Rattle.engine.proofs.Fits.{held-over, fit-over, field-count, end-is, joined-in}
 use Rattle.loading.specs.Loading.{answerBy, scratchBy, loadable, measuredIn, Laid}
-use Rattle.loading.specs.declared.Loaded.{Loaded}
-use Rattle.loading.specs.declared.Loaded.the-variants.{Bad as BadLoad, Fields as Count}
+use Rattle.loading.specs.declared.Loaded.{Loaded, the-variants.Bad as BadLoad, the-variants.Fields as Count}
 use Rattle.loading.proofs.Judged.{measured-all}
 use Rattle.operations.specs.Listing.{isSome}
 use Rattle.operations.proofs.Listing.{restOf, someRest, one-more, operations-end, Judged}
 use Rattle.updates.specs.Running.{planIn, after, runFrom, undoFrom, restFrom, Runs, FillsAtEnd}
-use Rattle.updates.specs.declared.run.Ran.{Ran}
-use Rattle.updates.specs.declared.run.Ran.the-variants.{NoRoom, Refused, Done}
+use Rattle.updates.specs.declared.run.Ran.{Ran, the-variants.NoRoom, the-variants.Refused, the-variants.Done}
 use Rattle.updates.specs.Carrying.{Refuses, HasRoom, Carries}
 
 never : {A : Type 0} → _≡_ {A = ℕ} 0 1 → A

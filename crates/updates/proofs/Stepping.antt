@@ -13,11 +13,9 @@ use Rattle.tuples.specs.Tuple.{Fields}
 use Rattle.tuples.specs.Decoding.{Got, fails, gets, less}
 use Rattle.tuples.specs.Operation.{Operation, operation}
 use Rattle.tuples.specs.Edit.{Edit, stop, next, perform, restored, inverse}
-use Rattle.tuples.specs.declared.Refusal.{Refusal}
-use Rattle.tuples.specs.declared.Refusal.the-variants.{BadList}
+use Rattle.tuples.specs.declared.Refusal.{Refusal, the-variants.BadList}
 use Rattle.engine.specs.Held.{fieldsIn, Fit, Left}
-use Rattle.engine.specs.declared.Edited.{Edited}
-use Rattle.engine.specs.declared.Edited.the-variants.{Stop, Next}
+use Rattle.engine.specs.declared.Edited.{Edited, the-variants.Stop, the-variants.Next}
 use Rattle.engine.proofs.Fits.{field-count}
 use Rattle.numbers.specs.FieldNumber.{fieldBy}
 use Rattle.numbers.specs.declared.Field.{Field}
@@ -25,8 +23,7 @@ use Rattle.operations.specs.declared.Action.{Action}
 use Rattle.operations.proofs.Opening.{IsOperation}
 use Rattle.computing.specs.Altering.{Unless}
 use Rattle.planning.specs.Plan.{planned, workAfter, performed, editIn, Among, Means}
-use Rattle.planning.specs.declared.Planned.{Planned}
-use Rattle.planning.specs.declared.Planned.the-variants.{Refuse, Alter, Bring, Cut}
+use Rattle.planning.specs.declared.Planned.{Planned, the-variants.Refuse, the-variants.Alter, the-variants.Bring, the-variants.Cut}
 use Rattle.planning.proofs.Steps.{plan-means, performed-next, performed-stop, performed-fits, left-stop, left-next}
 use Rattle.undo_lists.specs.Laying.{countedAll, laidAll}
 use Rattle.undo_lists.specs.Inverse.{inverseIn, inverseCount}

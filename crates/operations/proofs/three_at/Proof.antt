@@ -4,12 +4,9 @@ use lib.ListN.{drop}
 use Rattle.tuples.specs.Decoding.{anyInteger, atLeast, anyValue}
 use Rattle.tuples.specs.Operation.{three, plus, minus, and, xor, or, assign, insert, remove}
 use Rattle.operations.specs.Found.{actionBy}
-use Rattle.parts.specs.declared.Signed.{Signed}
-use Rattle.parts.specs.declared.Signed.the-variants.{Is as IsSigned, Bad as NoSigned}
-use Rattle.parts.specs.declared.Natural.{Natural}
-use Rattle.parts.specs.declared.Natural.the-variants.{Is as IsNatural, Bad as NoNatural}
-use Rattle.parts.specs.declared.Span.{Span}
-use Rattle.parts.specs.declared.Span.the-variants.{Bad as NoSpan}
+use Rattle.parts.specs.declared.Signed.{Signed, the-variants.Is as IsSigned, the-variants.Bad as NoSigned}
+use Rattle.parts.specs.declared.Natural.{Natural, the-variants.Is as IsNatural, the-variants.Bad as NoNatural}
+use Rattle.parts.specs.declared.Span.{Span, the-variants.Bad as NoSpan}
 use Rattle.operations.specs.declared.Action.{Action}
 use Rattle.operations.specs.declared.Action.the-variants.{Plus, Minus, And, Xor, Or, Assign, Insert, Remove}
 use Rattle.operations.proofs.Actions.{bySigned, byNatural, bySpan, span, argument, three-other}
