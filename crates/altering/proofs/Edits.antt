@@ -16,12 +16,10 @@ use Rattle.tuples.specs.Tuple.{Fields, plain}
 use Rattle.tuples.specs.Decoding.{Got, fails, gets, Decoder}
 use Rattle.tuples.specs.Operation.{Action, plus, minus, and, xor, or, assign, insert, remove, splice}
 use Rattle.tuples.specs.Edit.{Edit, refuse, put, add, cut, spliced, became, suited, altered, editAt, stop, fits, limited, perform}
-use Rattle.tuples.specs.declared.Refusal.{Refusal}
-use Rattle.tuples.specs.declared.Refusal.the-variants.{TooLarge}
+use Rattle.tuples.specs.declared.Refusal.{Refusal, the-variants.TooLarge}
 use Rattle.tuples.proofs.Legal.{plain-length, field-length}
 use Rattle.computing.specs.Altering.{within, Unless, alteredBy, workBy, Alters}
-use Rattle.computing.specs.declared.Altered.{Altered}
-use Rattle.computing.specs.declared.Altered.the-variants.{Is, Refused, Other}
+use Rattle.computing.specs.declared.Altered.{Altered, the-variants.Is, the-variants.Refused, the-variants.Other}
 use Rattle.altering.specs.Edits.{editOf}
 
 -- the edit of the field alone, as that of field f

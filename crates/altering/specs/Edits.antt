@@ -1,4 +1,4 @@
--- What an action makes of a field that it alters.
+-- Inner: what an action makes of a field that it alters.
 use mathlib.Core.List.{[], _∷_}
 use mathlib.Core.Option.{Option, none, some}
 use Rattle.msgpack_first_bytes.specs.Bytes.{Bytes}

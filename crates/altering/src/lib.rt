@@ -1,6 +1,6 @@
 // Fields altered in place by an action: numbers computed, strings spliced.
 use computing::Altered;
-use computing::Gate;
+use computing::Bitwise;
 use operations::Action;
 ghost use Rattle.computing.specs.Altering.{Alters};
 ghost use Rattle.operations.specs.Found.{actionIn};
@@ -13,11 +13,11 @@ pub fn alter(action: Action, list: &[u8], field: &[u8], work: &mut [u8]) -> Alte
     match action {
         Action::Plus(v, _) => computing::sum_field(field, v, false, work),
         Action::Minus(v, _) => computing::sum_field(field, v, true, work),
-        Action::And(v, _) => computing::bits_field(field, v, Gate::And, work),
-        Action::Xor(v, _) => computing::bits_field(field, v, Gate::Xor, work),
-        Action::Or(v, _) => computing::bits_field(field, v, Gate::Or, work),
+        Action::And(v, _) => computing::bits_field(field, v, Bitwise::And, work),
+        Action::Xor(v, _) => computing::bits_field(field, v, Bitwise::Xor, work),
+        Action::Or(v, _) => computing::bits_field(field, v, Bitwise::Or, work),
         Action::Splice(position, count, start, end) => {
-            let argument = splicing::bytes_of(list, start, end);
+            let argument = parts::bytes_of(list, start, end);
             splicing::splice_field(field, position as usize, count as usize, argument, work)
         }
         Action::Assign(_, _) => Altered::Other,

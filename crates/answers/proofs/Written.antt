@@ -8,8 +8,7 @@ use Rattle.msgpack_first_bytes.specs.Bytes.{Bytes}
 use Rattle.msgpack_writing.proofs.Put.{Wrote}
 use Rattle.tuples.specs.Call.{bytes, refusal, refusing, writing, delivered}
 use Rattle.tuples.specs.declared.Answer.{Answer}
-use Rattle.tuples.specs.declared.Refusal.{Refusal}
-use Rattle.tuples.specs.declared.Refusal.the-variants.{ShortBuffer}
+use Rattle.tuples.specs.declared.Refusal.{Refusal, the-variants.ShortBuffer}
 use Rattle.answers.specs.Seen.{seen, refusalOf}
 
 pub seen-refusal : {r : Answer} (k : Refusal) (i : ℕ) (out : Bytes) → r ≡ refusalOf k i → seen r out ≡ delivered (refusal k i) out

@@ -11,28 +11,24 @@ use borrow.Author.Tests.{le-leb, lt-leb, lt-ltb, le-ltb}
 use lib.IntN.{ℤ, pos, negsuc, _+ℤ_, _-ℤ_}
 use lib.ListN.{length, drop}
 use Rattle.msgpack_first_bytes.specs.Bytes.{Bytes, pick}
-use Rattle.msgpack_scalars.specs.declared.Int.{Int}
-use Rattle.msgpack_scalars.specs.declared.Int.the-variants.{FromZero, BelowZero}
+use Rattle.msgpack_scalars.specs.declared.Int.{Int, the-variants.FromZero, the-variants.BelowZero}
 use Rattle.msgpack_writing.specs.Put.{next}
 use Rattle.msgpack_writing.specs.Put as Written
 use Rattle.msgpack_first_bytes.proofs.Logic.{either, by-ltb}
 use Rattle.msgpack_writing.proofs.Lengths.{Long, unsigned-long, negative-long}
 use Rattle.msgpack_read_back.specs.Claims.{integerForm, InRange}
 use Rattle.tuples.specs.Limits.{maxTuple}
-use Rattle.tuples.specs.Decoding.{Got, anyInteger, atLeast}
+use Rattle.tuples.specs.Decoding.{Got, fails, gets, anyInteger, atLeast}
 use Rattle.tuples.specs.Edit.{Edit, refuse, put, asℤ, ranged, became, suited, altered, editAt}
 use Rattle.tuples.specs.declared.Refusal.the-variants.{Unsuited, TooLarge}
-use Rattle.parts.specs.Part.{signedIn, SignedAt, naturalIn, NaturalAt}
-use Rattle.parts.specs.declared.Signed.{Signed}
-use Rattle.parts.specs.declared.Signed.the-variants.{Is as IsSigned, Bad as NoSigned}
-use Rattle.parts.specs.declared.Natural.{Natural}
-use Rattle.parts.specs.declared.Natural.the-variants.{Is as IsNatural, Bad as NoNatural}
+use Rattle.parts.specs.Part.{signedBy, naturalBy}
+use Rattle.parts.specs.declared.Signed.{Signed, the-variants.Is as IsSigned, the-variants.Bad as NoSigned}
+use Rattle.parts.specs.declared.Natural.{Natural, the-variants.Is as IsNatural, the-variants.Bad as NoNatural}
 use Rattle.sums.specs.Range.{inRange}
 use Rattle.sums.specs.declared.Sum.{Sum}
 use Rattle.computing.specs.Altering.{Alters}
-use Rattle.computing.specs.Computing.{formOf, SumInRange, gateOf, bitsEdit, sumEdit}
-use Rattle.computing.specs.declared.Gate.{Gate}
-use Rattle.computing.specs.declared.Gate.the-variants.{And, Xor, Or}
+use Rattle.computing.specs.Computing.{formOf, SumInRange, bitwiseOf, bitsEdit, sumEdit}
+use Rattle.computing.specs.declared.Bitwise.{Bitwise, the-variants.And, the-variants.Xor, the-variants.Or}
 use Rattle.computing.specs.declared.Altered.the-variants.{Is, Refused}
 
 -- ---- a number at the front of the work array
@@ -78,46 +74,49 @@ form-ranged (pos n) = by-ltb (λ (s : Sum). formOf s ≡ ranged (pos n)) n (2 ^ 
 form-ranged (negsuc m) = by-ltb (λ (s : Sum). formOf s ≡ ranged (negsuc m)) m (2 ^ 63) (λ h. rw (lt-ltb m (2 ^ 63) h)) (λ h. rw (le-ltb m (2 ^ 63) h))
 
 -- what `+` or `-` makes of the field that was read
-sum-by : Bool → Int → Got Int → Edit
-sum-by less v g = suited 0 g (λ z. ranged (pick less (asℤ z -ℤ asℤ v) (asℤ z +ℤ asℤ v)))
+abbrev pub sumOf : Bool → Int → Signed → Edit
+sumOf less v (IsSigned z e) = became 0 (ranged (pick less (asℤ z -ℤ asℤ v) (asℤ z +ℤ asℤ v)))
+sumOf less v NoSigned = refuse Unsuited
 
-sum-read : (less : Bool) (v : Int) (field : Bytes) → sum-by less v (anyInteger field) ≡ sumEdit less v field
-unfolding sum-by editAt altered
-sum-read true v field = refl
-sum-read false v field = refl
-
-module _ (less : Bool) (v : Int) (field : Bytes) {r : Signed} (h : SignedAt field r (anyInteger field)) where
-  told : {x : Signed} → r ≡ x → sum-by less v (signedIn field x) ≡ sumEdit less v field
-  told q = ap (sum-by less v) (ap (signedIn field) (sym q) ∙ h .0) ∙ sum-read less v field
+module _ (less : Bool) (v : Int) (field : Bytes) {r : Signed} (h : r ≡ signedBy field (anyInteger field)) where
+  told : {x : Signed} → r ≡ x → sumOf less v x ≡ sumEdit less v field
+  unfolding editAt altered suited
+  told q = ap (sumOf less v) (sym q ∙ h) ∙ go less (anyInteger field) refl
+    where
+      go : (less : Bool) (g : Got Int) → anyInteger field ≡ g → sumOf less v (signedBy field g) ≡ sumEdit less v field
+      go true fails e = rw e
+      go true (gets z s) e = rw e
+      go false fails e = rw e
+      go false (gets z s) e = rw e
 
   pub sum-unsuited : r ≡ NoSigned → refuse Unsuited ≡ sumEdit less v field
-  unfolding sum-by suited
   sum-unsuited q = told q
 
   pub sum-is : {z : Int} {e : ℕ} → r ≡ IsSigned z e → {s : Sum} → s ≡ inRange (pick less (asℤ z -ℤ asℤ v) (asℤ z +ℤ asℤ v))
       → became 0 (formOf s) ≡ sumEdit less v field
-  unfolding sum-by suited
   sum-is {z} q i = ap (became 0) (ap formOf i ∙ form-ranged (pick less (asℤ z -ℤ asℤ v) (asℤ z +ℤ asℤ v))) ∙ told q
 
 -- ---- bit by bit
 
-bits-by : Gate → ℕ → Got ℕ → Edit
-bits-by g v x = suited 0 x (λ n. some (integerForm (FromZero (gateOf g n v))))
+abbrev bitsOf : Bitwise → ℕ → Natural → Edit
+bitsOf g v (IsNatural n e) = put 0 (integerForm (FromZero (bitwiseOf g n v)))
+bitsOf g v NoNatural = refuse Unsuited
 
-bits-read : (g : Gate) (v : ℕ) (field : Bytes) → bits-by g v (atLeast 0 field) ≡ bitsEdit g v field
-unfolding bits-by editAt altered
-bits-read And v field = refl
-bits-read Xor v field = refl
-bits-read Or v field = refl
+module _ (b : Bitwise) (v : ℕ) (field : Bytes) {r : Natural} (h : r ≡ naturalBy field (atLeast 0 field)) where
+  bits-told : {x : Natural} → r ≡ x → bitsOf b v x ≡ bitsEdit b v field
+  unfolding editAt altered suited became
+  bits-told q = ap (bitsOf b v) (sym q ∙ h) ∙ go b (atLeast 0 field) refl
+    where
+      go : (b : Bitwise) (g : Got ℕ) → atLeast 0 field ≡ g → bitsOf b v (naturalBy field g) ≡ bitsEdit b v field
+      go And fails e = rw e
+      go And (gets n s) e = rw e
+      go Xor fails e = rw e
+      go Xor (gets n s) e = rw e
+      go Or fails e = rw e
+      go Or (gets n s) e = rw e
 
-module _ (g : Gate) (v : ℕ) (field : Bytes) {r : Natural} (h : NaturalAt field r (atLeast 0 field)) where
-  bits-told : {x : Natural} → r ≡ x → bits-by g v (naturalIn field x) ≡ bitsEdit g v field
-  bits-told q = ap (bits-by g v) (ap (naturalIn field) (sym q) ∙ h .0) ∙ bits-read g v field
-
-  pub bits-unsuited : r ≡ NoNatural → refuse Unsuited ≡ bitsEdit g v field
-  unfolding bits-by suited
+  pub bits-unsuited : r ≡ NoNatural → refuse Unsuited ≡ bitsEdit b v field
   bits-unsuited q = bits-told q
 
-  pub bits-is : {n e : ℕ} → r ≡ IsNatural n e → {m : ℕ} → m ≡ gateOf g n v → put 0 (integerForm (FromZero m)) ≡ bitsEdit g v field
-  unfolding bits-by suited became
+  pub bits-is : {n e : ℕ} → r ≡ IsNatural n e → {m : ℕ} → m ≡ bitwiseOf b n v → put 0 (integerForm (FromZero m)) ≡ bitsEdit b v field
   bits-is q i = ap (λ (m : ℕ). put 0 (integerForm (FromZero m))) i ∙ bits-told q

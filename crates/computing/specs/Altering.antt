@@ -1,4 +1,4 @@
--- A field altered in place: the new one at the front of a work array.
+-- Inner: a field altered in place: the new one at the front of a work array.
 use Prim.Native.Nat.{ℕ, _<_}
 use mathlib.Core.Bool.{Bool, _&&_}
 use mathlib.Core.List.{_++_}

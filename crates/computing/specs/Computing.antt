@@ -1,4 +1,4 @@
--- Computed numbers.
+-- Inner: computed numbers.
 use Prim.Native.Nat.{ℕ}
 use mathlib.Core.Bool.{Bool}
 use mathlib.Core.List.{[], _∷_}
@@ -12,8 +12,8 @@ use Rattle.tuples.specs.Operation as Law
 use Rattle.tuples.specs.Edit.{Edit, editAt}
 use Rattle.sums.specs.declared.Sum.{Sum}
 use Rattle.sums.specs.declared.Sum.the-variants.{Is as IsSum, OutOfRange}
-use Rattle.computing.specs.declared.Gate.{Gate}
-use Rattle.computing.specs.declared.Gate.the-variants.{And, Xor, Or}
+use Rattle.computing.specs.declared.Bitwise.{Bitwise}
+use Rattle.computing.specs.declared.Bitwise.the-variants.{And, Xor, Or}
 
 abbrev pub formOf : Sum → Option Bytes
 formOf (IsSum z) = some (integerForm z)
@@ -23,18 +23,18 @@ abbrev pub SumInRange : Sum → Type 0
 SumInRange (IsSum z) = InRange z
 SumInRange OutOfRange = Unit {0}
 
-abbrev pub gateOf : Gate → ℕ → ℕ → ℕ
-gateOf And n v = bitAnd n v
-gateOf Xor n v = bitXor n v
-gateOf Or n v = bitOr n v
+abbrev pub bitwiseOf : Bitwise → ℕ → ℕ → ℕ
+bitwiseOf And n v = bitAnd n v
+bitwiseOf Xor n v = bitXor n v
+bitwiseOf Or n v = bitOr n v
 
-abbrev pub gateAction : Gate → ℕ → Law.Action
-gateAction And v = and v
-gateAction Xor v = xor v
-gateAction Or v = or v
+abbrev pub bitwiseAction : Bitwise → ℕ → Law.Action
+bitwiseAction And v = and v
+bitwiseAction Xor v = xor v
+bitwiseAction Or v = or v
 
-abbrev pub bitsEdit : Gate → ℕ → Bytes → Edit
-bitsEdit g v field = editAt (gateAction g v) 0 (field ∷ [])
+abbrev pub bitsEdit : Bitwise → ℕ → Bytes → Edit
+bitsEdit g v field = editAt (bitwiseAction g v) 0 (field ∷ [])
 
 abbrev pub sumEdit : Bool → Int → Bytes → Edit
 sumEdit less v field = editAt (pick less (minus v) (plus v)) 0 (field ∷ [])

@@ -14,7 +14,7 @@ ghost use Rattle.msgpack_read_back.specs.Claims.{integerForm, InRange};
 ghost use Rattle.tuples.specs.Edit.{put, became, asℤ};
 ghost use Rattle.sums.specs.Range.{inRange};
 ghost use Rattle.computing.specs.Altering.{Alters};
-ghost use Rattle.computing.specs.Computing.{formOf, SumInRange, gateOf, sumEdit, bitsEdit};
+ghost use Rattle.computing.specs.Computing.{formOf, SumInRange, bitwiseOf, sumEdit, bitsEdit};
 
 // The length of the new field, whose bytes stand at the front of the work array; or why there is
 // none. Other: no field is altered.
@@ -25,7 +25,7 @@ pub enum Altered {
 }
 
 // `&`, `^` and `|`.
-pub enum Gate {
+pub enum Bitwise {
     And,
     Xor,
     Or,
@@ -82,22 +82,22 @@ pub fn sum_field(field: &[u8], v: Int, minus: bool, work: &mut [u8]) -> Altered
     put_sum(total(z, v, minus), work)
 }
 
-fn through(gate: Gate, n: u64, v: u64) -> u64
-    ensures { λ r. ⌜ r ≡ gateOf gate n v ⌝ }
+fn combine(by: Bitwise, n: u64, v: u64) -> u64
+    ensures { λ r. ⌜ r ≡ bitwiseOf by n v ⌝ }
 {
-    match gate {
-        Gate::And => n & v,
-        Gate::Xor => n ^ v,
-        Gate::Or => n | v,
+    match by {
+        Bitwise::And => n & v,
+        Bitwise::Xor => n ^ v,
+        Bitwise::Or => n | v,
     }
 }
 
 // `&`, `^` or `|`.
-pub fn bits_field(field: &[u8], v: u64, gate: Gate, work: &mut [u8]) -> Altered
-    ensures { λ r. ⌜ Alters (some (bitsEdit gate v (now (field .entry)))) r (now (work .entry)) (now (work .exit)) ⌝ }
+pub fn bits_field(field: &[u8], v: u64, by: Bitwise, work: &mut [u8]) -> Altered
+    ensures { λ r. ⌜ Alters (some (bitsEdit by v (now (field .entry)))) r (now (work .entry)) (now (work .exit)) ⌝ }
 {
     let Natural::Is(n, _) = numbers::at_least(field, 0, 0) else {
         return Altered::Refused(Refusal::Unsuited);
     };
-    put_number(Int::FromZero(through(gate, n, v)), work)
+    put_number(Int::FromZero(combine(by, n, v)), work)
 }

@@ -14,8 +14,7 @@ use Rattle.tuples.specs.Edit.{stop}
 use Rattle.tuples.specs.declared.Refusal.the-variants.{NoField, TooLarge}
 use Rattle.engine.specs.Held.{sum, cutInto, holds, heldIn, endOf, edit}
 use Rattle.engine.specs.Decision.{goneBytes, within, unreached, decided, Editing}
-use Rattle.engine.specs.declared.Decided.{Decided}
-use Rattle.engine.specs.declared.Decided.the-variants.{Stop, Go}
+use Rattle.engine.specs.declared.Decided.{Decided, the-variants.Stop, the-variants.Go}
 use Rattle.engine.proofs.Cut.{sum-more}
 use Rattle.engine.proofs.Ends.{Holds, held, end-held, end-start, end-here, holds-fewer}
 use Rattle.engine.proofs.Edits.{many, long-ones, no-room, both-within, is-within, too-large, Held, is-held-in, Replacing, not-held, no-field, as-limited, edited, fields-after, bytes-after}

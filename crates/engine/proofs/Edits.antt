@@ -14,8 +14,7 @@ use Rattle.msgpack_writing.specs.Forms.{arrayHeader}
 use Rattle.tuples.specs.Limits.{maxFields, maxTuple}
 use Rattle.tuples.specs.Tuple.{Fields}
 use Rattle.tuples.specs.Edit.{Step, stop, next, spliced, fits}
-use Rattle.tuples.specs.declared.Refusal.{Refusal}
-use Rattle.tuples.specs.declared.Refusal.the-variants.{NoField, TooLarge}
+use Rattle.tuples.specs.declared.Refusal.{Refusal, the-variants.NoField, the-variants.TooLarge}
 use Rattle.tuples.proofs.Cases.{both-hold}
 use Rattle.tuples.proofs.Legal.{plain-length}
 use Rattle.moves.specs.Splice.{replaced}

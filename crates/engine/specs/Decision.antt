@@ -1,4 +1,4 @@
--- What is decided of an edit before anything moves, by numbers alone; and what the one edit inside asks.
+-- Inner: what is decided of an edit before anything moves, by numbers alone; and what the one edit inside asks.
 use Prim.Native.Nat.{ℕ, _+_, _-_, _≤_}
 use mathlib.Core.Path.{_≡_}
 use mathlib.Core.Bool.{Bool, _&&_}

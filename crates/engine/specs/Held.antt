@@ -1,4 +1,4 @@
--- The tuple under work: its fields lie back to back at the front of a scratch array, and a table has their lengths.
+-- Inner: the tuple under work: its fields lie back to back at the front of a scratch array, and a table has their lengths.
 use Prim.Native.Nat.{ℕ, _+_, _≤_}
 use mathlib.Core.Path.{_≡_}
 use mathlib.Core.Bool.{Bool, _&&_}

@@ -13,21 +13,18 @@ use lib.Seq.{take-all}
 use Rattle.msgpack_first_bytes.specs.Bytes.{Bytes, pick}
 use Rattle.msgpack_values.specs.Value.{shift, value, items}
 use Rattle.msgpack_values.specs.Pieces.{pieces, joined}
-use Rattle.msgpack_values.specs.declared.Read.{Read}
-use Rattle.msgpack_values.specs.declared.Read.the-variants.{Whole, Broken}
+use Rattle.msgpack_values.specs.declared.Read.{Read, the-variants.Whole, the-variants.Broken}
 use Rattle.msgpack_values.proofs.Pieces.{pieces-joined}
 use Rattle.msgpack_scalars.specs.Start.{arrayBy}
 use Rattle.msgpack_scalars.specs.Header.{header, shiftHeader}
-use Rattle.msgpack_scalars.specs.declared.Header.{Header}
-use Rattle.msgpack_scalars.specs.declared.Header.the-variants.{Is, Other}
+use Rattle.msgpack_scalars.specs.declared.Header.{Header, the-variants.Is, the-variants.Other}
 use Rattle.msgpack_writing.specs.Put.{put, next}
 use Rattle.msgpack_writing.proofs.Put.{Wrote, wrote}
 use Rattle.tuples.specs.Limits.{maxFields, maxTuple, fieldDepth}
 use Rattle.tuples.specs.Tuple.{Fields, filling, fieldsFilling, fieldsBy, fieldsOf}
 use Rattle.engine.specs.Held.{lengthsOf, over}
 use Rattle.loading.specs.Loading.{measuredBy, measured, loadable, measuredIn, Laid}
-use Rattle.loading.specs.declared.Loaded.{Loaded}
-use Rattle.loading.specs.declared.Loaded.the-variants.{Bad, Fields as Count}
+use Rattle.loading.specs.declared.Loaded.{Loaded, the-variants.Bad, the-variants.Fields as Count}
 use Rattle.loading.proofs.Measures.{whole-at}
 
 -- ---- n values from a place on, by what the reader says of them

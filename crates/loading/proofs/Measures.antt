@@ -10,8 +10,7 @@ use lib.Seq.{take-suc-set, drop-set-lt, drop-drop, length-take-le}
 use Rattle.msgpack_first_bytes.specs.Bytes.{Bytes}
 use Rattle.msgpack_values.specs.Value.{shift, items}
 use Rattle.msgpack_values.specs.Pieces.{pieces}
-use Rattle.msgpack_values.specs.declared.Read.{Read}
-use Rattle.msgpack_values.specs.declared.Read.the-variants.{Whole, Broken}
+use Rattle.msgpack_values.specs.declared.Read.{Read, the-variants.Whole, the-variants.Broken}
 use Rattle.msgpack_values.proofs.Laws.{items-whole, items-broken}
 use Rattle.msgpack_values.proofs.Local.{Good}
 use Rattle.engine.specs.Held.{lengthsOf, over}

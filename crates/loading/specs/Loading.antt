@@ -1,4 +1,4 @@
--- A tuple judged, and its fields laid out.
+-- Inner: a tuple judged, and its fields laid out.
 use Prim.Native.Nat.{ℕ, _≤_}
 use mathlib.Core.Path.{_≡_}
 use mathlib.Core.List.{List, []}

@@ -1,4 +1,4 @@
--- Of the first `total` elements of a buffer, the `gone` from `at` on make way for a piece. Elements are bytes, or lengths.
+-- Inner: of the first `total` elements of a buffer, the `gone` from `at` on make way for a piece. Elements are bytes, or lengths.
 use Prim.Native.Nat.{ℕ, _+_, _-_}
 use mathlib.Core.Bool.{Bool, _&&_}
 use mathlib.Core.List.{List, _++_}

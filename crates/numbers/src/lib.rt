@@ -1,13 +1,19 @@
 // The numbers of an operation, each at a place of the bytes.
 use msgpack_scalars::Int;
 use msgpack_scalars::Integer;
-use parts::Field;
 use parts::Natural;
 use parts::Signed;
 ghost use mathlib.Core.Path.{_≡_};
 ghost use lib.ListN.{drop};
 ghost use Rattle.tuples.specs.Decoding.{less, anyInteger, atLeast, position};
-ghost use Rattle.parts.specs.Part.{fieldBy, SignedAt, NaturalAt};
+ghost use Rattle.parts.specs.Part.{signedBy, naturalBy};
+ghost use Rattle.numbers.specs.FieldNumber.{fieldBy};
+
+// A field by its number from 0, or a number below 0.
+pub enum Field {
+    At(u64),
+    Below,
+}
 
 // The field number without the index base.
 pub fn field_of(number: Int, base: u64) -> Field
@@ -27,7 +33,7 @@ pub fn field_of(number: Int, base: u64) -> Field
 
 // The integer at `at`. One of a single byte is told here, so that the compiler has no call to make.
 pub fn any_integer(s: &[u8], at: usize) -> Signed
-    ensures { λ r. ⌜ SignedAt (now (s .entry)) r (anyInteger (drop at (now (s .entry)))) ⌝ }
+    ensures { λ r. ⌜ r ≡ signedBy (now (s .entry)) (anyInteger (drop at (now (s .entry)))) ⌝ }
 {
     if s.len() <= at {
         return Signed::Bad;
@@ -45,7 +51,7 @@ pub fn any_integer(s: &[u8], at: usize) -> Signed
 
 // The integer at `at`, where it is `low` at least.
 pub fn at_least(s: &[u8], at: usize, low: u64) -> Natural
-    ensures { λ r. ⌜ NaturalAt (now (s .entry)) r (atLeast low (drop at (now (s .entry)))) ⌝ }
+    ensures { λ r. ⌜ r ≡ naturalBy (now (s .entry)) (atLeast low (drop at (now (s .entry)))) ⌝ }
 {
     let Signed::Is(z, end) = any_integer(s, at) else {
         return Natural::Bad;
@@ -61,7 +67,7 @@ pub fn at_least(s: &[u8], at: usize, low: u64) -> Natural
 
 // The integer at `at` less the index base, where that is 0 at least.
 pub fn position_at(s: &[u8], at: usize, base: u64) -> Natural
-    ensures { λ r. ⌜ NaturalAt (now (s .entry)) r (position base (drop at (now (s .entry)))) ⌝ }
+    ensures { λ r. ⌜ r ≡ naturalBy (now (s .entry)) (position base (drop at (now (s .entry)))) ⌝ }
 {
     let Signed::Is(z, end) = any_integer(s, at) else {
         return Natural::Bad;

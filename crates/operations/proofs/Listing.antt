@@ -8,78 +8,78 @@ use Prim.Native.Nat.{ℕ, suc, _-_, _<_, _≤_}
 use native.Mathlib.Omega.{arith}
 use borrow.Author.Tests.{leb-true, le-leb, lt-leb}
 use lib.Dec.{leb}
-use lib.ListN.{length, drop, length-drop, drop-of-length-le}
+use lib.ListN.{length, drop, drop-of-length-le}
 use lib.Seq.{drop-cons}
 use Rattle.msgpack_first_bytes.specs.Bytes.{Bytes, pick}
-use Rattle.msgpack_scalars.specs.Start.{arrayBy}
-use Rattle.msgpack_scalars.specs.Header.{header, shiftHeader}
 use Rattle.msgpack_first_bytes.proofs.Logic.{either}
-use Rattle.msgpack_scalars.specs.declared.Int.{Int}
 use Rattle.tuples.specs.Limits.{maxOperations, maxList}
-use Rattle.tuples.specs.Decoding.{Got, fails, gets, count}
+use Rattle.tuples.specs.Decoding.{Got, fails, gets, Decoder, count}
 use Rattle.tuples.specs.Operation.{Operation, operation, before, andMore, operations, listBy, operationsOf}
-use Rattle.parts.specs.Part.{naturalIn, naturalEnd, NaturalAt}
-use Rattle.operations.specs.Found.{actionIn, endOf}
-use Rattle.operations.specs.Listing.{restOf, restIn, present, frontBy, front}
-use Rattle.operations.specs.declared.Action.{Action}
-use Rattle.operations.specs.declared.Action.the-variants.{Plus, Minus, And, Xor, Or, Assign, Insert, Remove, Splice, Bad as NoAction}
-use Rattle.parts.specs.declared.Natural.{Natural}
-use Rattle.parts.specs.declared.Natural.the-variants.{Is as IsNatural, Bad as NoNatural}
-use Rattle.operations.specs.declared.Ended.{Ended}
-use Rattle.operations.specs.declared.Ended.the-variants.{At, Bad as NotEnded}
-use Rattle.operations.specs.declared.Listed.{Listed}
-use Rattle.operations.specs.declared.Listed.the-variants.{Good, Bad}
-use Rattle.parts.proofs.Reading.{countOf, count-at}
-use Rattle.operations.proofs.Opening.{actingIn}
+use Rattle.parts.specs.Part.{naturalBy}
+use Rattle.operations.specs.Found.{endedBy}
+use Rattle.operations.specs.Listing.{isSome, frontBy, front}
+use Rattle.parts.specs.declared.Natural.{Natural, the-variants.Is as IsNatural, the-variants.Bad as NoNatural}
+use Rattle.operations.specs.declared.Ended.{Ended, the-variants.At, the-variants.Bad as NotEnded}
+use Rattle.operations.specs.declared.Listed.{Listed, the-variants.Good, the-variants.Bad}
+use Rattle.parts.proofs.Leaving.{Leaves, Leaving, none as noBytes, rest-is, rest-after, leaves-at, leaving-count}
+use Rattle.operations.proofs.Opening.{leaving-operation}
 
--- the end of an action's operation
-pub rest-acting : (l : Bytes) (base : ℕ) (z : Int) (x : Action) → restIn l (endOf x) ≡ restOf (actingIn base z (actionIn l x))
-rest-acting l base z (Plus v e) = refl
-rest-acting l base z (Minus v e) = refl
-rest-acting l base z (And v e) = refl
-rest-acting l base z (Xor v e) = refl
-rest-acting l base z (Or v e) = refl
-rest-acting l base z (Assign a e) = refl
-rest-acting l base z (Insert a e) = refl
-rest-acting l base z (Remove m e) = refl
-rest-acting l base z (Splice p k a e) = refl
-rest-acting l base z NoAction = refl
+-- the bytes after what was got, and from a place of the list on
+abbrev pub restOf : {A : Type 0} → Got A → Option Bytes
+restOf fails = none
+restOf (gets a s) = some s
+
+abbrev restIn : Bytes → Ended → Option Bytes
+restIn l (At e) = some (drop e l)
+restIn l NotEnded = none
+
+rest-back : {A : Type 0} {carried : A → Bytes} {d : Decoder A} → Leaving carried d → (l : Bytes) (at : ℕ) → restIn l (endedBy l (d (drop at l))) ≡ restOf (d (drop at l))
+rest-back {A} {carried} {d} h l at = go (d (drop at l)) (leaves-at h l at)
+  where
+    go : (g : Got A) → Leaves carried l g → restIn l (endedBy l g) ≡ restOf g
+    go fails k = refl
+    go (gets a s) k = ap some (rest-after (carried a) s k)
 
 -- ---- operations one after the other
 
-abbrev pub presentRest : ℕ → ℕ → Option Bytes → Bool
-presentRest base n none = false
-presentRest base n (some t) = present (operations base n t)
+abbrev pub someRest : ℕ → ℕ → Option Bytes → Bool
+someRest base n none = false
+someRest base n (some t) = isSome (operations base n t)
 
-pub one-more : (base n : ℕ) (s : Bytes) → present (operations base (suc n) s) ≡ presentRest base n (restOf (operation base s))
+pub one-more : (base n : ℕ) (s : Bytes) → isSome (operations base (suc n) s) ≡ someRest base n (restOf (operation base s))
 unfolding operations andMore before
 one-more base n s = go (operation base s)
   where
-    next : (o : Operation) (x : Option (List Operation)) → present (before o x) ≡ present x
+    next : (o : Operation) (x : Option (List Operation)) → isSome (before o x) ≡ isSome x
     next o none = refl
     next o (some os) = refl
 
-    go : (g : Got Operation) → present (andMore g (operations base n)) ≡ presentRest base n (restOf g)
+    go : (g : Got Operation) → isSome (andMore g (operations base n)) ≡ someRest base n (restOf g)
     go fails = refl
     go (gets o t) = next o (operations base n t)
 
-module _ (base n : ℕ) (l : Bytes) (at : ℕ) {r : Ended} (h : restIn l r ≡ restOf (operation base (drop at l))) where
-  found : {x : Ended} → r ≡ x → present (operations base (suc n) (drop at l)) ≡ presentRest base n (restIn l x)
-  found q = one-more base n (drop at l) ∙ ap (presentRest base n) (sym h ∙ ap (restIn l) q)
+module _ (base n : ℕ) (l : Bytes) (at : ℕ) {r : Ended} (h : r ≡ endedBy l (operation base (drop at l))) where
+  found : {x : Ended} → r ≡ x → isSome (operations base (suc n) (drop at l)) ≡ someRest base n (restIn l x)
+  found q = one-more base n (drop at l) ∙ ap (someRest base n) (sym (ap (restIn l) (sym q ∙ h) ∙ rest-back (leaving-operation base) l at))
 
-  pub operations-next : {e : ℕ} → r ≡ At e → present (operations base n (drop e l)) ≡ present (operations base (suc n) (drop at l))
+  pub operations-next : {e : ℕ} → r ≡ At e → isSome (operations base n (drop e l)) ≡ isSome (operations base (suc n) (drop at l))
   operations-next q = sym (found q)
 
-  pub operations-bad : r ≡ NotEnded → false ≡ present (operations base (suc n) (drop at l))
+  pub operations-bad : r ≡ NotEnded → false ≡ isSome (operations base (suc n) (drop at l))
   operations-bad q = sym (found q)
 
-pub operations-end : (base : ℕ) (l : Bytes) (at : ℕ) → leb (length l) at ≡ present (operations base 0 (drop at l))
+pub operations-end : (base : ℕ) (l : Bytes) (at : ℕ) → leb (length l) at ≡ isSome (operations base 0 (drop at l))
 unfolding operations
 operations-end base l at =
     ⊎-elim (λ h. rw (le-leb (length l) at h, drop-of-length-le l h)) (λ h. rw (lt-leb (length l) at h, drop-cons l at 0 h))
     (either (length l) at)
 
 -- ---- the front of the list
+
+-- by the count that was read
+abbrev pub frontOf : Natural → Listed
+frontOf (IsNatural n e) = pick (leb n maxOperations) (Good n e) Bad
+frontOf NoNatural = Bad
 
 module _ (base : ℕ) (l : Bytes) where
   pub base-refused : 1 < base → Bad ≡ front base l
@@ -94,26 +94,14 @@ module _ (base : ℕ) (l : Bytes) where
       and-false true = refl
       and-false false = refl
 
-  module _ (k : base ≤ 1) (j : length l ≤ maxList) {r : Natural} (g : NaturalAt l r (count l)) where
-    told : {x : Natural} → r ≡ x → NaturalAt l x (count l)
-    told q = subst (λ (x : Natural). NaturalAt l x (count l)) q g
-
-    fronted : {x : Natural} → r ≡ x → front base l ≡ frontBy l (naturalIn l x)
+  module _ (k : base ≤ 1) (j : length l ≤ maxList) {r : Natural} (g : r ≡ naturalBy l (count l)) where
+    pub fronted : {x : Natural} → r ≡ x → frontOf x ≡ front base l
     unfolding front
-    fronted q = rw (le-leb base 1 k, le-leb (length l) maxList j, ← (told q .0))
-
-    pub uncounted-refused : r ≡ NoNatural → Bad ≡ front base l
-    uncounted-refused q = sym (fronted q)
-
-    module _ {n e : ℕ} (q : r ≡ IsNatural n e) where
-      pub many-refused : maxOperations < n → Bad ≡ front base l
-      many-refused h = sym (fronted q ∙ rw (lt-leb n maxOperations h))
-
-      pub front-is : n ≤ maxOperations → Good n e ≡ front base l
-      front-is h =
-          let w = told q .1 in
-          let i : length l - length (drop e l) ≡ e = rw length-drop (omega arith) in
-          sym (fronted q ∙ rw (le-leb n maxOperations h, i))
+    fronted q = rw (le-leb base 1 k, le-leb (length l) maxList j) (ap frontOf (sym q ∙ g) ∙ go (count l))
+      where
+        go : (g : Got ℕ) → frontOf (naturalBy l g) ≡ frontBy l g
+        go fails = refl
+        go (gets n s) = refl
 
 -- ---- what a caller of `front_of` goes on from
 
@@ -126,25 +114,20 @@ abbrev Says : ℕ → Bytes → Listed → Type 0
 Says base l (Good n e) = Judged base l n e
 Says base l Bad = operationsOf base l ≡ none
 
--- the array's header, where there is one, lies within the list
-counted-at : (l : Bytes) → NaturalAt l (countOf (shiftHeader 0 (header arrayBy l))) (count l)
-counted-at l = count-at l 0 (shiftHeader 0 (header arrayBy l)) refl
-
 module _ (base : ℕ) (l : Bytes) where
   -- what a front says where `os` are the list's operations
   abbrev Saying : Listed → Option (List Operation) → Type 0
   Saying r os = operationsOf base l ≡ os → Says base l r
 
-  says-front : (x : Natural) → naturalEnd x ≤ length l → Saying (frontBy l (naturalIn l x)) (listBy base (naturalIn l x))
+  says-front : (g : Got ℕ) → Leaves noBytes l g → Saying (frontBy l g) (listBy base g)
   unfolding listBy
-  says-front (IsNatural n e) h =
-      let d : length l - length (drop e l) ≡ e = rw length-drop (omega arith) in
-      go d (leb n maxOperations) refl
+  says-front (gets n s) h = go (leb n maxOperations) refl (rest-is h)
     where
-      go : length l - length (drop e l) ≡ e → (t : Bool) → leb n maxOperations ≡ t → Saying (pick t (Good n (length l - length (drop e l))) Bad) (pick t (operations base n (drop e l)) none)
-      go d true k = λ i. rw d (record { few = leb-true n maxOperations k; inside = h; all = i })
-      go d false k = λ i. i
-  says-front NoNatural h = λ i. i
+      go : (t : Bool) → leb n maxOperations ≡ t → drop (length l - length s) l ≡ s
+          → Saying (pick t (Good n (length l - length s)) Bad) (pick t (operations base n s) none)
+      go true k d = λ i. record { few = leb-true n maxOperations k; inside = omega arith; all = rw d i }
+      go false k d = λ i. i
+  says-front fails h = λ i. i
 
   says-allowed : (t : Bool) → Saying (frontBy l (count l)) (listBy base (count l)) → Saying (pick t (frontBy l (count l)) Bad) (pick t (listBy base (count l)) none)
   says-allowed true h = h
@@ -152,10 +135,7 @@ module _ (base : ℕ) (l : Bytes) where
 
   says : Says base l (front base l)
   unfolding front operationsOf
-  says =
-      let c = counted-at l in
-      says-allowed (leb base 1 && leb (length l) maxList)
-      (subst (λ (g : Got ℕ). Saying (frontBy l g) (listBy base g)) (c .0) (says-front (countOf (shiftHeader 0 (header arrayBy l))) (c .1))) refl
+  says = says-allowed (leb base 1 && leb (length l) maxList) (says-front (count l) (leaving-count .leaves l)) refl
 
   module _ {r : Listed} (h : r ≡ front base l) where
     pub good : {n e : ℕ} → r ≡ Good n e → Judged base l n e

@@ -1,29 +1,19 @@
--- A list judged as a whole: its front, and whether its operations fill it.
+-- Inner: a list judged as a whole: its front, and whether its operations fill it.
 use Prim.Native.Nat.{ℕ, _-_}
 use mathlib.Core.Bool.{Bool, true, false, _&&_}
 use mathlib.Core.Option.{Option, none, some}
 use lib.Dec.{leb}
-use lib.ListN.{length, drop}
+use lib.ListN.{length}
 use Rattle.msgpack_first_bytes.specs.Bytes.{Bytes, pick}
 use Rattle.tuples.specs.Limits.{maxOperations, maxList}
 use Rattle.tuples.specs.Decoding.{Got, fails, gets, count}
-use Rattle.operations.specs.declared.Ended.{Ended}
-use Rattle.operations.specs.declared.Ended.the-variants.{At, Bad as NotEnded}
 use Rattle.operations.specs.declared.Listed.{Listed}
 use Rattle.operations.specs.declared.Listed.the-variants.{Good, Bad}
 
--- the bytes after what was got, and from a place of the list on
-abbrev pub restOf : {A : Type 0} → Got A → Option Bytes
-restOf fails = none
-restOf (gets a s) = some s
-
-abbrev pub restIn : Bytes → Ended → Option Bytes
-restIn l (At e) = some (drop e l)
-restIn l NotEnded = none
-
-abbrev pub present : {A : Type 0} → Option A → Bool
-present none = false
-present (some a) = true
+-- whether there is any
+abbrev pub isSome : {A : Type 0} → Option A → Bool
+isSome none = false
+isSome (some a) = true
 
 -- what the front of a list tells: n operations, the first of them after the array's header, which s follows; or 12
 abbrev pub frontBy : Bytes → Got ℕ → Listed

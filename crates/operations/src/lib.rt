@@ -7,8 +7,8 @@ use parts::Span;
 ghost use mathlib.Core.Path.{_≡_};
 ghost use lib.ListN.{drop};
 ghost use Rattle.tuples.specs.Operation.{three, five, actionOf, operation, operations};
-ghost use Rattle.operations.specs.Found.{ActionAt, endOf, opening, OpenedAt};
-ghost use Rattle.operations.specs.Listing.{restIn, restOf, present, front};
+ghost use Rattle.operations.specs.Found.{actionBy, endOf, opening, openedBy, sent, decodedBy, endedBy};
+ghost use Rattle.operations.specs.Listing.{isSome, front};
 
 // What an operation does, with its argument and the place after it. Bytes are given by their start
 // and their end in the list, which is the operation's end. Of a splice first the position, from 0,
@@ -28,13 +28,19 @@ pub enum Action {
 
 // How an operation begins: the count of its array, its mark, its field number as it was sent, and
 // the place of what follows.
-pub enum Opened {
+enum Opened {
     Is(u64, u64, Int, usize),
     Bad,
 }
 
+// An operation's field number as it was sent, its action, and the place after it.
+pub enum Decoded {
+    Is(Int, Action, usize),
+    Bad,
+}
+
 // The place after an operation; or what stands there is none.
-pub enum Ended {
+enum Ended {
     At(usize),
     Bad,
 }
@@ -47,7 +53,7 @@ pub enum Listed {
 
 // The action of an array of three, its argument at `at`.
 fn three_at(list: &[u8], at: usize, mark: u64) -> Action
-    ensures { λ r. ⌜ ActionAt (now (list .entry)) r (three mark (drop at (now (list .entry)))) ⌝ }
+    ensures { λ r. ⌜ r ≡ actionBy (now (list .entry)) (three mark (drop at (now (list .entry)))) ⌝ }
 {
     match mark {
         0x2b => match numbers::any_integer(list, at) {
@@ -88,7 +94,7 @@ fn three_at(list: &[u8], at: usize, mark: u64) -> Action
 
 // The action of an array of five: a splice, its position at `at`.
 fn five_at(list: &[u8], at: usize, mark: u64, base: u64) -> Action
-    ensures { λ r. ⌜ ActionAt (now (list .entry)) r (five base mark (drop at (now (list .entry)))) ⌝ }
+    ensures { λ r. ⌜ r ≡ actionBy (now (list .entry)) (five base mark (drop at (now (list .entry)))) ⌝ }
 {
     if mark != 0x3a {
         return Action::Bad;
@@ -106,8 +112,8 @@ fn five_at(list: &[u8], at: usize, mark: u64, base: u64) -> Action
 }
 
 // What an operation of `count` parts does by its mark; what follows its field number stands at `at`.
-pub fn action_at(list: &[u8], at: usize, count: u64, mark: u64, base: u64) -> Action
-    ensures { λ r. ⌜ ActionAt (now (list .entry)) r (actionOf base count mark (drop at (now (list .entry)))) ⌝ }
+fn action_at(list: &[u8], at: usize, count: u64, mark: u64, base: u64) -> Action
+    ensures { λ r. ⌜ r ≡ actionBy (now (list .entry)) (actionOf base count mark (drop at (now (list .entry)))) ⌝ }
 {
     if count == 3 {
         return three_at(list, at, mark);
@@ -119,8 +125,8 @@ pub fn action_at(list: &[u8], at: usize, count: u64, mark: u64, base: u64) -> Ac
 }
 
 // How the operation at `at` begins.
-pub fn opening_at(list: &[u8], at: usize) -> Opened
-    ensures { λ r. ⌜ OpenedAt (now (list .entry)) r (opening (drop at (now (list .entry)))) ⌝ }
+fn opening_at(list: &[u8], at: usize) -> Opened
+    ensures { λ r. ⌜ r ≡ openedBy (now (list .entry)) (opening (drop at (now (list .entry)))) ⌝ }
 {
     let Natural::Is(count, at_mark) = parts::count_at(list, at) else {
         return Opened::Bad;
@@ -135,7 +141,7 @@ pub fn opening_at(list: &[u8], at: usize) -> Opened
 }
 
 // The place after an action's operation.
-pub fn end_of(action: Action) -> Ended
+fn end_of(action: Action) -> Ended
     ensures { λ r. ⌜ r ≡ endOf action ⌝ }
 {
     match action {
@@ -152,9 +158,23 @@ pub fn end_of(action: Action) -> Ended
     }
 }
 
+// The operation at `at`.
+pub fn operation_at(list: &[u8], at: usize, base: u64) -> Decoded
+    ensures { λ r. ⌜ r ≡ decodedBy (now (list .entry)) (sent base (drop at (now (list .entry)))) ⌝ }
+{
+    let Opened::Is(count, mark, number, after) = opening_at(list, at) else {
+        return Decoded::Bad;
+    };
+    let action = action_at(list, after, count, mark, base);
+    let Ended::At(end) = end_of(action) else {
+        return Decoded::Bad;
+    };
+    Decoded::Is(number, action, end)
+}
+
 // Where the operation at `at` ends.
 fn operation_end(list: &[u8], at: usize, base: u64) -> Ended
-    ensures { λ r. ⌜ restIn (now (list .entry)) r ≡ restOf (operation base (drop at (now (list .entry)))) ⌝ }
+    ensures { λ r. ⌜ r ≡ endedBy (now (list .entry)) (operation base (drop at (now (list .entry)))) ⌝ }
 {
     let Opened::Is(count, mark, _, after) = opening_at(list, at) else {
         return Ended::Bad;
@@ -164,7 +184,7 @@ fn operation_end(list: &[u8], at: usize, base: u64) -> Ended
 
 // Whether `count` operations from `start` on fill the list.
 pub fn fill_list(list: &[u8], start: usize, count: usize, base: u64) -> bool
-    ensures { λ r. ⌜ r ≡ present (operations base count (drop start (now (list .entry)))) ⌝ }
+    ensures { λ r. ⌜ r ≡ isSome (operations base count (drop start (now (list .entry)))) ⌝ }
 {
     let mut at = start;
     let mut left = count;

@@ -4,15 +4,10 @@ use msgpack_scalars::Int;
 use msgpack_scalars::Opening;
 use msgpack_values::Read;
 ghost use mathlib.Core.Path.{_≡_};
+ghost use Prim.Native.Nat.{min};
 ghost use lib.ListN.{drop};
 ghost use Rattle.tuples.specs.Decoding.{anyValue, string, count, mark};
-ghost use Rattle.parts.specs.Part.{NaturalAt, SpanAt};
-
-// A field by its number from 0, or a number below 0.
-pub enum Field {
-    At(u64),
-    Below,
-}
+ghost use Rattle.parts.specs.Part.{part, naturalBy, spanBy};
 
 // An integer and the place after it.
 pub enum Signed {
@@ -34,7 +29,7 @@ pub enum Span {
 
 // The value at `at`, as deep as a field may be.
 pub fn any_value(s: &[u8], at: usize) -> Span
-    ensures { λ r. ⌜ SpanAt (now (s .entry)) r (anyValue (drop at (now (s .entry)))) ⌝ }
+    ensures { λ r. ⌜ r ≡ spanBy (now (s .entry)) (anyValue (drop at (now (s .entry)))) ⌝ }
 {
     match msgpack_values::read_value(s, at, tuples::FIELD_DEPTH) {
         Read::Whole(end) => Span::Is(at, end),
@@ -44,7 +39,7 @@ pub fn any_value(s: &[u8], at: usize) -> Span
 
 // The bytes of the string whose header stands at `at`.
 pub fn string_at(s: &[u8], at: usize) -> Span
-    ensures { λ r. ⌜ SpanAt (now (s .entry)) r (string (drop at (now (s .entry)))) ⌝ }
+    ensures { λ r. ⌜ r ≡ spanBy (now (s .entry)) (string (drop at (now (s .entry)))) ⌝ }
 {
     let Header::Is(n, start) = msgpack_scalars::header_at(s, at, Opening::String) else {
         return Span::Bad;
@@ -58,7 +53,7 @@ pub fn string_at(s: &[u8], at: usize) -> Span
 // The count of the array whose header stands at `at`, and the place after the header. A short header
 // is told here, so that the compiler has no call to make for it.
 pub fn count_at(s: &[u8], at: usize) -> Natural
-    ensures { λ r. ⌜ NaturalAt (now (s .entry)) r (count (drop at (now (s .entry)))) ⌝ }
+    ensures { λ r. ⌜ r ≡ naturalBy (now (s .entry)) (count (drop at (now (s .entry)))) ⌝ }
 {
     if s.len() <= at {
         return Natural::Bad;
@@ -75,7 +70,7 @@ pub fn count_at(s: &[u8], at: usize) -> Natural
 
 // A string of one character, in its shortest form.
 pub fn mark_at(s: &[u8], at: usize) -> Natural
-    ensures { λ r. ⌜ NaturalAt (now (s .entry)) r (mark (drop at (now (s .entry)))) ⌝ }
+    ensures { λ r. ⌜ r ≡ naturalBy (now (s .entry)) (mark (drop at (now (s .entry)))) ⌝ }
 {
     if s.len() < 2 {
         return Natural::Bad;
@@ -87,4 +82,19 @@ pub fn mark_at(s: &[u8], at: usize) -> Natural
         return Natural::Bad;
     }
     Natural::Is(s[at + 1] as u64, at + 2)
+}
+
+fn least(a: usize, b: usize) -> usize
+    ensures { λ r. ⌜ r ≡ min a b ⌝ }
+{
+    if a < b { a } else { b }
+}
+
+// The bytes from a place up to another; places past the end mean the end.
+pub fn bytes_of(list: &[u8], start: usize, end: usize) -> &[u8]
+    ensures { λ r. ⌜ now r ≡ part start end (now (list .entry)) ⌝ }
+{
+    let to = least(end, list.len());
+    let from = least(start, to);
+    &list[from..to]
 }

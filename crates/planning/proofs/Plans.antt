@@ -5,21 +5,17 @@ use Prim.Native.Nat.{ℕ, _<_, _≤_}
 use borrow.Author.Tests.{le-leb, lt-leb}
 use Rattle.msgpack_first_bytes.specs.Bytes.{Bytes}
 use Rattle.tuples.specs.Edit.{Step}
-use Rattle.tuples.specs.declared.Refusal.{Refusal}
-use Rattle.tuples.specs.declared.Refusal.the-variants.{NoField}
+use Rattle.tuples.specs.declared.Refusal.{Refusal, the-variants.NoField}
 use Rattle.engine.specs.Held.{Left}
 use Rattle.engine.specs.declared.Edited.{Edited}
-use Rattle.parts.specs.declared.Field.{Field}
-use Rattle.parts.specs.declared.Field.the-variants.{At, Below}
+use Rattle.numbers.specs.declared.Field.{Field, the-variants.At, the-variants.Below}
 use Rattle.operations.specs.Found.{actionIn}
 use Rattle.operations.specs.declared.Action.{Action}
 use Rattle.computing.specs.Altering.{Alters}
-use Rattle.computing.specs.declared.Altered.{Altered}
-use Rattle.computing.specs.declared.Altered.the-variants.{Is, Refused, Other}
+use Rattle.computing.specs.declared.Altered.{Altered, the-variants.Is, the-variants.Refused, the-variants.Other}
 use Rattle.altering.specs.Edits.{editOf}
 use Rattle.planning.specs.Plan.{wholly, fieldBytes, alone, orElse, plannedAt, workAt, planned, workAfter}
-use Rattle.planning.specs.declared.Planned.{Planned}
-use Rattle.planning.specs.declared.Planned.the-variants.{Refuse, Alter}
+use Rattle.planning.specs.declared.Planned.{Planned, the-variants.Refuse, the-variants.Alter}
 
 -- the same step, said otherwise
 pub left-as : {r : Edited} {s' : Bytes} {l' : List ℕ} {s : Bytes} {l : List ℕ} {to to' : Step} → to ≡ to' → Left r s' l' s l to → Left r s' l' s l to'

@@ -11,9 +11,8 @@ use borrow.Author.Tests.{lt-ltb, le-ltb, le-leb, lt-leb, leb-true, leb-false, eq
 use lib.Dec.{leb, eqb}
 use lib.ListN.{length, getD}
 use Rattle.msgpack_first_bytes.specs.Bytes.{Bytes, pick}
-use Rattle.msgpack_scalars.specs.declared.Int.{Int}
-use Rattle.msgpack_scalars.specs.declared.Int.the-variants.{FromZero, BelowZero}
-use Rattle.msgpack_first_bytes.proofs.Logic.{impossible as never, by-leb, by-ltb, either}
+use Rattle.msgpack_scalars.specs.declared.Int.{Int, the-variants.FromZero, the-variants.BelowZero}
+use Rattle.msgpack_first_bytes.proofs.Logic.{impossible, by-leb, by-ltb, either}
 use Rattle.msgpack_values.specs.Pieces.{joined}
 use Rattle.tuples.specs.Limits.{maxFields, maxTuple}
 use Rattle.tuples.specs.Tuple.{Fields}
@@ -21,27 +20,24 @@ use Rattle.tuples.specs.Decoding.{Got, fails, gets, Decoder, less}
 use Rattle.tuples.specs.Operation.{plus, minus, and, xor, or, assign, insert, remove, splice}
 use Rattle.tuples.specs.Operation as Law
 use Rattle.tuples.specs.Edit.{Edit, refuse, put, add, became, suited, altered, editAt, fieldAt, planOf, Step, stop, next, spliced, fits, limited, perform}
-use Rattle.tuples.specs.declared.Refusal.{Refusal}
-use Rattle.tuples.specs.declared.Refusal.the-variants.{NoField, TooLarge}
+use Rattle.tuples.specs.declared.Refusal.{Refusal, the-variants.NoField, the-variants.TooLarge}
 use Rattle.tuples.proofs.Cases.{both-hold}
 use Rattle.tuples.proofs.Legal.{Fits, plain-length}
 use Rattle.engine.specs.Held.{fieldsIn, limitedTo, edit, Fit, answerOf, scratchOf, tableOf, Left}
-use Rattle.engine.specs.declared.Edited.{Edited}
-use Rattle.engine.specs.declared.Edited.the-variants.{Stop, Next}
+use Rattle.engine.specs.declared.Edited.{Edited, the-variants.Stop, the-variants.Next}
 use Rattle.engine.proofs.Edits.{as-limited, edit-next}
 use Rattle.engine.proofs.Fits.{holding-in, field-count, field-is, held-over, fit-over}
-use Rattle.parts.specs.Part.{part, fieldBy}
+use Rattle.parts.specs.Part.{part}
+use Rattle.numbers.specs.FieldNumber.{fieldBy}
 use Rattle.operations.specs.Found.{actionIn}
 use Rattle.operations.specs.declared.Action.{Action}
 use Rattle.operations.specs.declared.Action.the-variants.{Plus, Minus, And, Xor, Or, Assign, Insert, Remove, Splice, Bad}
 use Rattle.computing.specs.Altering.{within, Unless, alteredBy, workBy, Alters}
-use Rattle.computing.specs.declared.Altered.{Altered}
-use Rattle.computing.specs.declared.Altered.the-variants.{Is, Refused, Other}
+use Rattle.computing.specs.declared.Altered.{Altered, the-variants.Is, the-variants.Refused, the-variants.Other}
 use Rattle.altering.specs.Edits.{editOf}
 use Rattle.altering.proofs.Edits.{altered-is, altered-refused}
 use Rattle.planning.specs.Plan.{wholly, fieldBytes, alone, orElse, plannedAt, workAt, planned, workAfter, performed, Means}
-use Rattle.planning.specs.declared.Planned.{Planned}
-use Rattle.planning.specs.declared.Planned.the-variants.{Refuse, Alter, Bring, Cut}
+use Rattle.planning.specs.declared.Planned.{Planned, the-variants.Refuse, the-variants.Alter, the-variants.Bring, the-variants.Cut}
 
 -- ---- what a plan means for an edit of the fields t
 
@@ -105,7 +101,7 @@ module _ (room : ℕ) (t : Fields) (list work : Bytes) where
     whole-means (Xor v e) a s q h = let w : a ≡ xor v = cc in rw w (absent _ _ (rw w at h))
     whole-means (Or v e) a s q h = let w : a ≡ or v = cc in rw w (absent _ _ (rw w at h))
     whole-means (Splice p k b e) a s q h = let w : a ≡ splice p k (part b e list) = cc in rw w (absent _ _ (rw w at h))
-    whole-means Bad a s q h = never (cc)
+    whole-means Bad a s q h = impossible (cc)
 
 -- ---- actions that take a field apart always answer for it
 
@@ -114,15 +110,15 @@ unfolding altered suited became
 no-other read change b work q = by-read (read b) q
   where
     by-room : (c : Bool) (n : ℕ) → pick c (Is n) (Refused TooLarge) ≡ Other → ⊥
-    by-room true n q = never (cc)
-    by-room false n q = never (cc)
+    by-room true n q = impossible (cc)
+    by-room false n q = impossible (cc)
 
     by-change : (o : Option Bytes) → alteredBy (some (became 0 o)) work ≡ Other → ⊥
-    by-change none q = never (cc)
+    by-change none q = impossible (cc)
     by-change (some x) q = by-room (within x (length work)) (length x) q
 
     by-read : (g : Got _) → alteredBy (some (suited 0 g change)) work ≡ Other → ⊥
-    by-read fails q = never (cc)
+    by-read fails q = impossible (cc)
     by-read (gets a s) q = by-change (change a) q
 
 apart : (room : ℕ) (t : Fields) (list left : Bytes) (f : ℕ) (a : Law.Action) (s b work : Bytes) → alteredBy (editOf (gets a s) b) work ≡ Other → Apart room t list left f a
@@ -244,7 +240,7 @@ module _ {s : Bytes} {l : List ℕ} {n : ℕ} (fit : Fit s l n) (list left : Byt
       where
         go : Near (performed r list left s l n) (perform e (fieldsIn s l n)) → perform e (fieldsIn s l n) ≡ next u
         go (inl x) = sym x ∙ q
-        go (inr x) = never (let y = x .0 in cc)
+        go (inr x) = impossible (let y = x .0 in cc)
 
     pub performed-stop : {k : Refusal} → performed r list left s l n ≡ stop k → Unless (length s) k (perform e (fieldsIn s l n) ≡ stop k)
     performed-stop {k} q = go (perform-means r e m)
@@ -258,7 +254,7 @@ module _ {s : Bytes} {l : List ℕ} {n : ℕ} (fit : Fit s l n) (list left : Byt
   performed-fits r u q = let h = go r q in (is-fit u (h .0), h .1)
     where
       go : (r : Planned) → performed r list left s l n ≡ next u → (fits u ≡ true) × (length (joined u) ≤ length s)
-      go (Refuse k) q = never (cc)
+      go (Refuse k) q = impossible (cc)
       go (Alter f k) q = edit-next f 1 (part 0 k left ∷ []) s l n u q
       go (Bring f g a b) q = edit-next f g (part a b list ∷ []) s l n u q
       go (Cut f k) q = edit-next f k [] s l n u q
@@ -271,13 +267,13 @@ module _ {s s' : Bytes} {l l' : List ℕ} {r : Edited} {to : Step} (w : Left r s
     where
       go : (to : Step) → Stop k ≡ answerOf to → to ≡ stop k
       go (stop j) e = let x : j ≡ k = cc in ap stop x
-      go (next t) e = never (cc)
+      go (next t) e = impossible (cc)
 
   pub left-next : {m n : ℕ} → r ≡ Next m → Fit s l n → ((u : Fields) → to ≡ next u → Fits u × (length (joined u) ≤ length s)) → (to ≡ next (fieldsIn s' l' m)) × Fit s' l' m
   left-next {m} {n} q fit ok = go to refl (sym q ∙ w .answer) (w .bytes) (w .table)
     where
       go : (x : Step) → to ≡ x → Next m ≡ answerOf x → s' ≡ scratchOf x s → l' ≡ tableOf x l → (to ≡ next (fieldsIn s' l' m)) × Fit s' l' m
-      go (stop j) p a b c = never (cc)
+      go (stop j) p a b c = impossible (cc)
       go (next u) p a b c =
           let x : m ≡ length u = cc in
           let k = ok u p in

@@ -1,4 +1,4 @@
--- What an operation plans on the fields that scratch array and table hold, and what its plan does to them.
+-- Inner: what an operation plans on the fields that scratch array and table hold, and what its plan does to them.
 use Prim.Native.Nat.{ℕ, zero, suc, _+_, _-_, _<_, _≤_, min}
 use mathlib.Core.Path.{_≡_}
 use mathlib.Core.List.{List, [], _∷_}
@@ -11,8 +11,8 @@ use Rattle.tuples.specs.Edit.{Edit, refuse, put, add, cut, Step, stop, perform}
 use Rattle.tuples.specs.declared.Refusal.the-variants.{NoField}
 use Rattle.engine.specs.Held.{endOf, edit}
 use Rattle.parts.specs.Part.{part}
-use Rattle.parts.specs.declared.Field.{Field}
-use Rattle.parts.specs.declared.Field.the-variants.{At, Below}
+use Rattle.numbers.specs.declared.Field.{Field}
+use Rattle.numbers.specs.declared.Field.the-variants.{At, Below}
 use Rattle.operations.specs.Found.{actionIn}
 use Rattle.operations.specs.declared.Action.{Action}
 use Rattle.operations.specs.declared.Action.the-variants.{Plus, Minus, And, Xor, Or, Assign, Insert, Remove, Splice, Bad}

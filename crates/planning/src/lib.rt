@@ -1,8 +1,8 @@
 // An operation planned on the fields that are held, and the plan performed.
 use computing::Altered;
 use engine::Edited;
+use numbers::Field;
 use operations::Action;
-use parts::Field;
 use tuples::MAX_FIELDS;
 use tuples::Refusal;
 ghost use mathlib.Core.Path.{_≡_};
@@ -94,7 +94,7 @@ pub fn plan(
     match altering::alter(
         action,
         list,
-        splicing::bytes_of(scratch, extent.from, extent.to),
+        parts::bytes_of(scratch, extent.from, extent.to),
         work,
     ) {
         Altered::Is(k) => Planned::Alter(f, k),
@@ -122,7 +122,7 @@ pub fn perform(
             n,
             f,
             1,
-            splicing::bytes_of(work, 0, k),
+            parts::bytes_of(work, 0, k),
         ),
         Planned::Bring(f, gone, start, end) => {
             engine::put_in(
@@ -131,7 +131,7 @@ pub fn perform(
                 n,
                 f,
                 gone,
-                splicing::bytes_of(list, start, end),
+                parts::bytes_of(list, start, end),
             )
         }
         Planned::Cut(f, m) => engine::cut_out(scratch, lengths, n, f, m),

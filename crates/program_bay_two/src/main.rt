@@ -1,7 +1,7 @@
 // The story of bay two on its own bytes: one press of the wash-mode button, an update frame with
 // `^`, arrives twice; the record after each, the undo lists beside them, and both presses taken back.
 use libc::STDOUT_FILENO;
-use splicing::bytes_of;
+use parts::bytes_of;
 
 fn print(text: &[u8]) {
     io::write_all(STDOUT_FILENO, text);

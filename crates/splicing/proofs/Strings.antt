@@ -2,61 +2,29 @@
 use mathlib.Core.Path.{_≡_, refl, sym, subst, ap, _∙_}
 use mathlib.Core.Bool.{Bool, true, false, _&&_}
 use mathlib.Core.List.{[], _∷_, _++_}
-use mathlib.Core.Logic.{⊎-elim}
 use mathlib.Core.Option.{some}
-use Prim.Native.Nat.{ℕ, _+_, _-_, _<_, _≤_, min}
+use Prim.Native.Nat.{ℕ, _+_, _-_, _<_, _≤_}
 use native.Mathlib.Nat.{zero-add}
 use native.Mathlib.Omega.{arith}
 use borrow.Author.Tests.{leb-true, lt-leb}
 use lib.Dec.{leb}
-use lib.ListN.{length, take, drop, length-append, length-drop, drop-of-length-le}
-use lib.Seq.{drop-drop, take-all, take-nil}
+use lib.ListN.{length, take, drop, length-append, length-drop}
+use lib.Seq.{drop-drop, take-all}
 use Rattle.msgpack_first_bytes.specs.Bytes.{Bytes}
 use Rattle.msgpack_writing.specs.Forms.{stringHeader, stringForm}
 use Rattle.msgpack_writing.specs.Put.{next}
 use Rattle.msgpack_writing.specs.Put as Written
-use Rattle.msgpack_first_bytes.proofs.Logic.{either}
 use Rattle.msgpack_writing.proofs.Put.{Wrote, wrote, step}
 use Rattle.tuples.specs.Limits.{maxTuple}
 use Rattle.tuples.specs.Decoding.{Got, string}
 use Rattle.tuples.specs.Operation.{splice}
 use Rattle.tuples.specs.Edit.{Edit, refuse, put, spliced, became, suited, altered, editAt}
 use Rattle.tuples.specs.declared.Refusal.the-variants.{Unsuited, TooLarge}
-use Rattle.parts.specs.Part.{part, spanIn, SpanAt}
-use Rattle.parts.specs.declared.Span.{Span}
-use Rattle.parts.specs.declared.Span.the-variants.{Is as IsSpan, Bad as NoSpan}
+use Rattle.parts.specs.Part.{part, spanBy}
+use Rattle.parts.specs.declared.Span.{Span, the-variants.Is as IsSpan, the-variants.Bad as NoSpan}
+use Rattle.parts.proofs.Leaving.{leaving-string, spanIn, span-back}
 use Rattle.computing.specs.Altering.{within, Alters}
 use Rattle.computing.specs.declared.Altered.the-variants.{Is, Refused}
-
--- ---- bytes from a place up to another, held to the end
-
-pub clamped : (l : Bytes) (a e : ℕ) (f t : ℕ) → t ≡ min e (length l) → f ≡ min a t → part f t l ≡ part a e l
-clamped l a e f t i j = ⊎-elim all past (either e (length l))
-  where
-    none-left : t ≤ a → e ≤ a → part f t l ≡ part a e l
-    none-left h k =
-        let m : t - f ≡ 0 = omega arith in
-        let n : e - a ≡ 0 = omega arith in
-        rw (m, n)
-
-    all : e ≤ length l → part f t l ≡ part a e l
-    all h =
-        let m : t ≡ e = omega arith in
-        ⊎-elim (λ (k : a ≤ e). let n : f ≡ a = omega arith in rw (m, n)) (λ (k : e < a). none-left (omega arith) (omega arith)) (either a e)
-
-    past : length l < e → part f t l ≡ part a e l
-    past h =
-        let m : t ≡ length l = omega arith in
-        ⊎-elim
-        (λ (k : a ≤ length l).
-        let n : f ≡ a = omega arith in
-        let d : length (drop a l) ≤ t - a = rw length-drop (omega arith) in
-        let g : length (drop a l) ≤ e - a = rw length-drop (omega arith) in
-        rw n (take-all (t - a) (drop a l) d ∙ sym (take-all (e - a) (drop a l) g)))
-        (λ (k : length l < a).
-        let n : t - f ≡ 0 = omega arith in
-        rw (n, drop-of-length-le l {i = a} (omega arith), take-nil))
-        (either a (length l))
 
 -- ---- a string of three pieces
 
@@ -116,9 +84,9 @@ splice-read : (p k : ℕ) (argument field : Bytes) → splice-by p k argument (s
 unfolding splice-by editAt altered
 splice-read p k argument field = refl
 
-module _ (p k : ℕ) (argument field : Bytes) {r : Span} (h : SpanAt field r (string field)) where
+module _ (p k : ℕ) (argument field : Bytes) {r : Span} (h : r ≡ spanBy field (string field)) where
   told : {x : Span} → r ≡ x → splice-by p k argument (spanIn field x) ≡ editAt (splice p k argument) 0 (field ∷ [])
-  told q = ap (splice-by p k argument) (ap (spanIn field) (sym q) ∙ h .0) ∙ splice-read p k argument field
+  told q = ap (splice-by p k argument) (ap (spanIn field) (sym q ∙ h) ∙ span-back field (string field) (leaving-string .leaves field)) ∙ splice-read p k argument field
 
   pub splice-unsuited : r ≡ NoSpan → refuse Unsuited ≡ editAt (splice p k argument) 0 (field ∷ [])
   unfolding splice-by suited

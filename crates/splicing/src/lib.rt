@@ -6,27 +6,10 @@ use tuples::Refusal;
 ghost use mathlib.Core.Path.{_≡_};
 ghost use mathlib.Core.List.{[], _∷_, _++_};
 ghost use mathlib.Core.Option.{some};
-ghost use Prim.Native.Nat.{min};
 ghost use Rattle.msgpack_writing.specs.Forms.{stringForm};
 ghost use Rattle.tuples.specs.Operation.{splice};
 ghost use Rattle.tuples.specs.Edit.{put, editAt};
-ghost use Rattle.parts.specs.Part.{part};
 ghost use Rattle.computing.specs.Altering.{within, Alters};
-
-fn least(a: usize, b: usize) -> usize
-    ensures { λ r. ⌜ r ≡ min a b ⌝ }
-{
-    if a < b { a } else { b }
-}
-
-// The bytes from a place up to another; places past the end mean the end.
-pub fn bytes_of(list: &[u8], start: usize, end: usize) -> &[u8]
-    ensures { λ r. ⌜ now r ≡ part start end (now (list .entry)) ⌝ }
-{
-    let to = least(end, list.len());
-    let from = least(start, to);
-    &list[from..to]
-}
 
 // Whether a string of three pieces, with its header, is not above a tuple's limit and has room.
 fn string_fits(front: &[u8], middle: &[u8], back: &[u8], room: usize) -> bool
@@ -74,8 +57,8 @@ pub fn splice_field(
     };
     let s = &field[start..end];
     let n = s.len();
-    let front = bytes_of(s, 0, position);
-    let rest = bytes_of(s, position, n);
-    let back = bytes_of(rest, count, n);
+    let front = parts::bytes_of(s, 0, position);
+    let rest = parts::bytes_of(s, position, n);
+    let back = parts::bytes_of(rest, count, n);
     put_string(front, argument, back, work)
 }

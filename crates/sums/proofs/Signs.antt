@@ -6,8 +6,7 @@ use native.Mathlib.Omega.{arith}
 use native.Mathlib.Numerals.{add-one}
 use borrow.Author.Tests.{lt-ltb, le-ltb}
 use lib.IntN.{ℤ, pos, negsuc, subℕ, _+ℤ_, _-ℤ_}
-use Rattle.msgpack_scalars.specs.declared.Int.{Int}
-use Rattle.msgpack_scalars.specs.declared.Int.the-variants.{FromZero, BelowZero}
+use Rattle.msgpack_scalars.specs.declared.Int.{Int, the-variants.FromZero, the-variants.BelowZero}
 use Rattle.msgpack_first_bytes.proofs.Logic.{either}
 use Rattle.tuples.specs.Edit.{asℤ}
 use Rattle.sums.specs.Range.{inRange}

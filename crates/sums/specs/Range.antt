@@ -1,4 +1,4 @@
--- The range of integers.
+-- Inner: the range of integers.
 use Prim.Native.Nat.{_^_}
 use lib.Dec.{ltb}
 use lib.IntN.{ℤ, pos, negsuc}

@@ -16,8 +16,7 @@ use Rattle.tuples.specs.declared.Refusal.{Refusal}
 use Rattle.engine.specs.Held.{fieldsIn, Fit}
 use Rattle.engine.proofs.Fits.{field-count, field-is}
 use Rattle.planning.specs.Plan.{fieldBytes, editIn, Among}
-use Rattle.planning.specs.declared.Planned.{Planned}
-use Rattle.planning.specs.declared.Planned.the-variants.{Refuse, Alter, Bring, Cut}
+use Rattle.planning.specs.declared.Planned.{Planned, the-variants.Refuse, the-variants.Alter, the-variants.Bring, the-variants.Cut}
 use Rattle.undo_lists.specs.Laying.{counted, laid, countedAll, laidAll}
 use Rattle.undo_lists.specs.Inverse.{fieldsFrom, oldBack, inverseIn}
 

@@ -1,4 +1,4 @@
--- The operations that take a plan back, on the fields that scratch array and table hold: document 01's undo list.
+-- Inner: the operations that take a plan back, on the fields that scratch array and table hold: document 01's undo list.
 use Prim.Native.Nat.{ℕ, zero, suc, _+_}
 use mathlib.Core.List.{List, [], _∷_}
 use lib.Dec.{leb, ltb}
@@ -27,3 +27,10 @@ inverseIn (Alter f k) scratch lengths = oldBack f scratch lengths
 inverseIn (Bring f zero a e) scratch lengths = operationBytes 0x23 f (unsignedForm 1) ∷ []
 inverseIn (Bring f (suc gone) a e) scratch lengths = oldBack f scratch lengths
 inverseIn (Cut f m) scratch lengths = pick (leb (f + m) maxFields) (restored f (fieldsFrom scratch lengths f m)) []
+
+-- how many they are, of a plan that is performed
+abbrev pub inverseCount : Planned → ℕ
+inverseCount (Refuse k) = 0
+inverseCount (Alter f k) = 1
+inverseCount (Bring f gone a e) = 1
+inverseCount (Cut f m) = m

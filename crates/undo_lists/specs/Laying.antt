@@ -1,4 +1,4 @@
--- Operations laid from the end of a buffer towards its front.
+-- Inner: operations laid from the end of a buffer towards its front.
 use Prim.Native.Nat.{ℕ, _+_, _-_, _<_, _≤_}
 use mathlib.Core.Path.{_≡_}
 use mathlib.Core.List.{List, [], _∷_}

@@ -9,7 +9,7 @@ ghost use Rattle.tuples.specs.Limits.{maxFields};
 ghost use Rattle.tuples.specs.Edit.{operationBytes, restored};
 ghost use Rattle.planning.specs.Plan.{fieldBytes};
 ghost use Rattle.undo_lists.specs.Laying.{counted, laid, countedAll, laidAll};
-ghost use Rattle.undo_lists.specs.Inverse.{fieldsFrom, oldBack, inverseIn};
+ghost use Rattle.undo_lists.specs.Inverse.{fieldsFrom, oldBack, inverseIn, inverseCount};
 
 // An operation of three, before the `bytes` that lie at the buffer's end: how many there are then.
 // Where there is no room, one more than the buffer has, and no operation is laid from there on.
@@ -56,7 +56,7 @@ fn lay_field(
         bytes,
         mark,
         f as u64,
-        splicing::bytes_of(scratch, extent.from, extent.to),
+        parts::bytes_of(scratch, extent.from, extent.to),
     )
 }
 
@@ -122,5 +122,17 @@ pub fn lay_inverse(
             }
             lay_removed(undo, bytes, f, m, scratch, lengths)
         }
+    }
+}
+
+// How many operations take a plan back.
+pub fn inverse_count(plan: Planned) -> usize
+    ensures { λ r. ⌜ r ≡ inverseCount plan ⌝ }
+{
+    match plan {
+        Planned::Refuse(_) => 0,
+        Planned::Alter(_, _) => 1,
+        Planned::Bring(_, _, _, _) => 1,
+        Planned::Cut(_, m) => m,
     }
 }

@@ -15,7 +15,7 @@ use Rattle.msgpack_writing.specs.Forms.{arrayHeader}
 use Rattle.msgpack_first_bytes.proofs.Logic.{either}
 use Rattle.tuples.specs.Limits.{maxOperations, maxList}
 use Rattle.tuples.specs.Tuple.{plain}
-use Rattle.tuples.specs.Call.{Outcome, refusal, bytes, limitedList, undo, Result, delivered}
+use Rattle.tuples.specs.Call.{Outcome, refusal, bytes, limitedList, Result, delivered}
 use Rattle.tuples.specs.declared.Refusal.the-variants.{LongUndo}
 use Rattle.tuples.proofs.Legal.{plain-length}
 use Rattle.undo_lists.specs.Laying.{Piled}

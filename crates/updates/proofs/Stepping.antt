@@ -7,79 +7,30 @@ use native.Mathlib.Omega.{arith}
 use lib.ListN.{length, take, drop, length-append, length-drop}
 use lib.Seq.{length-take-le}
 use Rattle.msgpack_first_bytes.specs.Bytes.{Bytes}
-use Rattle.msgpack_first_bytes.proofs.Logic.{impossible as never}
+use Rattle.msgpack_first_bytes.proofs.Logic.{impossible}
 use Rattle.msgpack_scalars.specs.declared.Int.{Int}
 use Rattle.tuples.specs.Limits.{maxFields}
 use Rattle.tuples.specs.Tuple.{Fields}
 use Rattle.tuples.specs.Decoding.{Got, fails, gets, less}
-use Rattle.tuples.specs.Operation.{Operation, operation, actionOf, plus, minus, and, xor, or, assign, insert, remove, splice}
-use Rattle.tuples.specs.Operation as Law
+use Rattle.tuples.specs.Operation.{Operation, operation}
 use Rattle.tuples.specs.Edit.{Edit, stop, next, perform, restored, inverse}
-use Rattle.tuples.specs.declared.Refusal.{Refusal}
-use Rattle.tuples.specs.declared.Refusal.the-variants.{BadList}
+use Rattle.tuples.specs.declared.Refusal.{Refusal, the-variants.BadList}
 use Rattle.engine.specs.Held.{fieldsIn, Fit, Left}
-use Rattle.engine.specs.declared.Edited.{Edited}
-use Rattle.engine.specs.declared.Edited.the-variants.{Stop, Next}
+use Rattle.engine.specs.declared.Edited.{Edited, the-variants.Stop, the-variants.Next}
 use Rattle.engine.proofs.Fits.{field-count}
-use Rattle.parts.specs.Part.{part, fieldBy}
-use Rattle.parts.specs.declared.Field.{Field}
-use Rattle.operations.specs.Found.{actionIn, ActionAt, endOf, opening, OpenedAt}
-use Rattle.operations.specs.declared.Ended.{Ended}
-use Rattle.operations.specs.declared.Ended.the-variants.{At, Bad as NotEnded}
+use Rattle.numbers.specs.FieldNumber.{fieldBy}
+use Rattle.numbers.specs.declared.Field.{Field}
 use Rattle.operations.specs.declared.Action.{Action}
-use Rattle.operations.specs.declared.Action.the-variants.{Plus, Minus, And, Xor, Or, Assign, Insert, Remove, Splice, Bad}
-use Rattle.operations.specs.declared.Opened.{Opened}
-use Rattle.operations.specs.declared.Opened.the-variants.{Is as IsOpened, Bad as NotOpened}
-use Rattle.operations.proofs.Opening.{actingIn, operation-none, operation-is}
+use Rattle.operations.proofs.Opening.{IsOperation}
 use Rattle.computing.specs.Altering.{Unless}
 use Rattle.planning.specs.Plan.{planned, workAfter, performed, editIn, Among, Means}
-use Rattle.planning.specs.declared.Planned.{Planned}
-use Rattle.planning.specs.declared.Planned.the-variants.{Refuse, Alter, Bring, Cut}
+use Rattle.planning.specs.declared.Planned.{Planned, the-variants.Refuse, the-variants.Alter, the-variants.Bring, the-variants.Cut}
 use Rattle.planning.proofs.Steps.{plan-means, performed-next, performed-stop, performed-fits, left-stop, left-next}
 use Rattle.undo_lists.specs.Laying.{countedAll, laidAll}
-use Rattle.undo_lists.specs.Inverse.{inverseIn}
+use Rattle.undo_lists.specs.Inverse.{inverseIn, inverseCount}
 use Rattle.undo_lists.proofs.Inverses.{inverse-is}
-use Rattle.updates.specs.Running.{planIn, after, Follows, Prepares, weightOf, Onward}
+use Rattle.updates.specs.Running.{planIn, after, Follows, Prepares, Onward}
 use Rattle.updates.specs.declared.run.Stage.{Stage}
-
--- ---- an operation decoded
-
-module _ (list : Bytes) where
-  -- the place after an action, and what the action is
-  acted : (x : Action) {e : ℕ} → endOf x ≡ At e → (a : Law.Action) × (actionIn list x ≡ gets a (drop e list))
-  acted (Plus v e) q = (plus v, cc)
-  acted (Minus v e) q = (minus v, cc)
-  acted (And v e) q = (and v, cc)
-  acted (Xor v e) q = (xor v, cc)
-  acted (Or v e) q = (or v, cc)
-  acted (Assign b e) q = (assign (part b e list), cc)
-  acted (Insert b e) q = (insert (part b e list), cc)
-  acted (Remove m e) q = (remove m, cc)
-  acted (Splice p k b e) q = (splice p k (part b e list), cc)
-  acted Bad q = never (cc)
-
-  unacted : (x : Action) → endOf x ≡ NotEnded → actionIn list x ≡ fails
-  unacted (Plus v e) q = never (cc)
-  unacted (Minus v e) q = never (cc)
-  unacted (And v e) q = never (cc)
-  unacted (Xor v e) q = never (cc)
-  unacted (Or v e) q = never (cc)
-  unacted (Assign b e) q = never (cc)
-  unacted (Insert b e) q = never (cc)
-  unacted (Remove m e) q = never (cc)
-  unacted (Splice p k b e) q = never (cc)
-  unacted Bad q = refl
-
-  module _ (s : Bytes) (base : ℕ) {r : Opened} (h : OpenedAt list r (opening s)) where
-    pub decode-unopened : r ≡ NotOpened → operation base s ≡ fails
-    decode-unopened q = sym (operation-none list s base h q)
-
-    module _ {n c e : ℕ} {z : Int} (q : r ≡ IsOpened n c z e) (x : Action) (g : ActionAt list x (actionOf base n c (drop e list))) {y : Ended} (i : y ≡ endOf x) where
-      pub decode-unacted : y ≡ NotEnded → operation base s ≡ fails
-      decode-unacted j = sym (operation-is list s base h q x g) ∙ ap (actingIn base z) (unacted x (sym i ∙ j))
-
-      pub decode-is : {k : ℕ} → y ≡ At k → (actingIn base z (actionIn list x) ≡ operation base s) × (endOf x ≡ At k)
-      decode-is j = (operation-is list s base h q x g, sym i ∙ j)
 
 -- ---- its plan
 
@@ -93,16 +44,15 @@ unfollowed list e q = rw q tt
 pub prepare-bad : (room : ℕ) (t : Fields) (list work : Bytes) (e : ℕ) {g : Got Operation} → g ≡ fails → Prepares room (record { plan = Refuse BadList; end = e }) list work g t
 prepare-bad room t list work e q = record { means = refuses room t list work q; follows = unfollowed list e q }
 
-pub prepare-is : {s : Bytes} {l : List ℕ} {n : ℕ} (fit : Fit s l n) (list work : Bytes) → length s ≤ length work → (base : ℕ) (z : Int) (x : Action) {e : ℕ}
-    {g : Got Operation} → (actingIn base z (actionIn list x) ≡ g) × (endOf x ≡ At e) → {fd : Field} → fd ≡ fieldBy (less base z) → {p : Planned} {left : Bytes}
-    → (p ≡ planned fd x list s l n work) × (left ≡ workAfter fd x list s l n work) → Prepares (length s) (record { plan = p; end = e }) list left g (fieldsIn s l n)
+pub prepare-is : {s : Bytes} {l : List ℕ} {n : ℕ} (fit : Fit s l n) (list work : Bytes) → length s ≤ length work → (base : ℕ) {at : ℕ} {z : Int} {x : Action} {e : ℕ}
+    → IsOperation base list at z x e → {fd : Field} → fd ≡ fieldBy (less base z) → {p : Planned} {left : Bytes}
+    → (p ≡ planned fd x list s l n work) × (left ≡ workAfter fd x list s l n work)
+    → Prepares (length s) (record { plan = p; end = e }) list left (operation base (drop at list)) (fieldsIn s l n)
 unfolding planIn
-prepare-is {s} {l} {n} fit list work room base z x {e} {g} d {fd} i {p} {left} w =
-    let a = acted list x (d .1) in
-    let q : g ≡ gets (record { number = less base z; action = a .0 }) (drop e list) = sym (d .0) ∙ ap (actingIn base z) (a .1) in
+prepare-is {s} {l} {n} fit list work room base {at} {z} {x} {e} d {fd} i {p} {left} w =
     let v : (p ≡ planned (fieldBy (less base z)) x list s l n work) × (left ≡ workAfter (fieldBy (less base z)) x list s l n work) = rw i at w in
-    let m = plan-means fit list work room x (a .0) (drop e list) (a .1) base z left (v .1) in
-    rw (q, v .0) (record { means = m; follows = refl })
+    let m = plan-means fit list work room x (d .does) (drop e list) (d .action) base z left (v .1) in
+    rw (d .operated, v .0) (record { means = m; follows = refl })
 
 -- ---- what was laid, and what was performed
 
@@ -111,24 +61,24 @@ unfolding restored
 length-restored f [] = refl
 length-restored f (x ∷ t) = length-append (restored f t) _ ∙ (let e = length-restored f t in omega arith)
 
-weight-is : (p : Planned) (t : Fields) (list work : Bytes) → Among p (length t) → weightOf p ≡ length (inverse (editIn p list work) t)
+inverse-counted : (p : Planned) (t : Fields) (list work : Bytes) → Among p (length t) → inverseCount p ≡ length (inverse (editIn p list work) t)
 unfolding inverse
-weight-is (Refuse k) t list work h = refl
-weight-is (Alter f k) t list work h = refl
-weight-is (Bring f zero a e) t list work h = refl
-weight-is (Bring f (suc g) a e) t list work h = refl
-weight-is (Cut f m) t list work h = sym (length-restored f (take m (drop f t)) ∙ length-take-le m (drop f t) (simp length-drop (omega arith)))
+inverse-counted (Refuse k) t list work h = refl
+inverse-counted (Alter f k) t list work h = refl
+inverse-counted (Bring f zero a e) t list work h = refl
+inverse-counted (Bring f (suc g) a e) t list work h = refl
+inverse-counted (Cut f m) t list work h = sym (length-restored f (take m (drop f t)) ∙ length-take-le m (drop f t) (simp length-drop (omega arith)))
 
-small-weight : (p : Planned) (n : ℕ) → Among p n → n ≤ maxFields → weightOf p ≤ maxFields
-small-weight (Refuse k) n h i = omega arith
-small-weight (Alter f k) n h i = omega arith
-small-weight (Bring f g a e) n h i = omega arith
-small-weight (Cut f m) n h i = omega arith
+few-inverse : (p : Planned) (n : ℕ) → Among p n → n ≤ maxFields → inverseCount p ≤ maxFields
+few-inverse (Refuse k) n h i = omega arith
+few-inverse (Alter f k) n h i = omega arith
+few-inverse (Bring f g a e) n h i = omega arith
+few-inverse (Cut f m) n h i = omega arith
 
 -- a plan that was performed is the edit itself
 taken : (t : Fields) (list work s : Bytes) (l : List ℕ) (n room : ℕ) (p : Planned) (e : Edit) {u : Fields} → Means room t list work p e → performed p list work s l n ≡ next u
     → (e ≡ editIn p list work) × Among p (length t)
-taken t list work s l n room (Refuse k) e m h = never (cc)
+taken t list work s l n room (Refuse k) e m h = impossible (cc)
 taken t list work s l n room (Alter f k) e m h = m
 taken t list work s l n room (Bring f g a b) e m h = m
 taken t list work s l n room (Cut f k) e m h = m
@@ -136,7 +86,7 @@ taken t list work s l n room (Cut f k) e m h = m
 -- what goes on was an operation, and its end is known
 follow : (list : Bytes) (end : ℕ) (g : Got Operation) (t : Fields) {u : Fields} → perform (planIn g t) t ≡ next u → Follows g list end → after g ≡ drop end list
 unfolding planIn perform after
-follow list end fails t h k = never (cc)
+follow list end fails t h k = impossible (cc)
 follow list end (gets o s) t h k = k
 
 module _ {s : Bytes} {l : List ℕ} {n : ℕ} (fit : Fit s l n) (list : Bytes) {left : Bytes} {p : Planned} {g : Got Operation} {end : ℕ}
@@ -158,18 +108,18 @@ module _ {s : Bytes} {l : List ℕ} {n : ℕ} (fit : Fit s l n) (list : Bytes) {
     among : Among p n
     among = rw (field-count fit) at (edit .1)
 
-    pub light : weightOf p ≤ maxFields
-    light = small-weight p n among (fit .few)
+    pub few : inverseCount p ≤ maxFields
+    few = few-inverse p n among (fit .few)
 
     inverts : inverseIn p s l ≡ inverse (planIn g (fieldsIn s l n)) (fieldsIn s l n)
     inverts = inverse-is fit p list left among ∙ ap (λ (e : Edit). inverse e (fieldsIn s l n)) (sym (edit .0))
 
-    pub step-goes : {z z₀ : Stage} {undo undo₀ : Bytes} → z .fields ≡ m → z .at ≡ end → z .laid ≡ z₀ .laid + weightOf p
+    pub step-goes : {z z₀ : Stage} {undo undo₀ : Bytes} → z .fields ≡ m → z .at ≡ end → z .laid ≡ z₀ .laid + inverseCount p
         → z .bytes ≡ countedAll (length undo₀) (inverseIn p s l) (z₀ .bytes) → undo ≡ laidAll (inverseIn p s l) (z₀ .bytes) undo₀
         → Onward z s' l' undo list undo₀ z₀ g (fieldsIn s l n)
     step-goes {z} {z₀} {undo} {undo₀} a b c d e =
-        let v : weightOf p ≡ length (inverse (planIn g (fieldsIn s l n)) (fieldsIn s l n))
-        = weight-is p (fieldsIn s l n) list left (edit .1) ∙ ap (λ (e : Edit). length (inverse e (fieldsIn s l n))) (sym (edit .0)) in
+        let v : inverseCount p ≡ length (inverse (planIn g (fieldsIn s l n)) (fieldsIn s l n))
+        = inverse-counted p (fieldsIn s l n) list left (edit .1) ∙ ap (λ (e : Edit). length (inverse e (fieldsIn s l n))) (sym (edit .0)) in
         record {
           goes = goes ∙ ap (λ (k : ℕ). next (fieldsIn s' l' k)) (sym a);
           fit = rw a (gone .1);
@@ -177,5 +127,5 @@ module _ {s : Bytes} {l : List ℕ} {n : ℕ} (fit : Fit s l n) (list : Bytes) {
           laid = c ∙ (omega arith);
           bytes = d ∙ rw inverts;
           buffer = e ∙ rw inverts;
-          few = let j = light in omega arith;
+          few = let j = few in omega arith;
         }

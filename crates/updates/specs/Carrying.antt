@@ -1,4 +1,4 @@
--- What both calls share: "In updating: 11, 12, then per operation 13 to 16".
+-- Inner: what both calls share: "In updating: 11, 12, then per operation 13 to 16".
 use Prim.Native.Nat.{ℕ, _<_, _≤_}
 use mathlib.Core.Path.{_≡_}
 use mathlib.Core.List.{List}
@@ -28,8 +28,8 @@ abbrev pub Refuses : Refusal → ℕ → Bytes → Bytes → ℕ → Type 0
 Refuses k i tuple list base = (i ≤ maxOperations) × (update tuple list base ≡ refusal k i) × (undo tuple list base ≡ refusal k i)
 
 -- the scratch array has room for the tuple, if any array has
-abbrev pub Roomy : Bytes → Bytes → Type 0
-Roomy tuple scratch = length tuple ≤ maxTuple → length tuple ≤ length scratch
+abbrev pub HasRoom : Bytes → Bytes → Type 0
+HasRoom tuple scratch = length tuple ≤ maxTuple → length tuple ≤ length scratch
 
 abbrev pub Carries : Ran → Bytes → List ℕ → Bytes → Bytes → Bytes → ℕ → Type 0
 Carries NoRoom scratch lengths back tuple list base = length scratch < maxTuple

@@ -1,4 +1,4 @@
--- An undo list whose bytes lie at the end of a buffer.
+-- Inner: an undo list whose bytes lie at the end of a buffer.
 use Prim.Native.Nat.{ℕ, _+_, _-_, _<_, _≤_}
 use mathlib.Core.Path.{_≡_}
 use mathlib.Core.Bool.{_&&_}

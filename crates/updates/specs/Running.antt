@@ -1,4 +1,4 @@
--- A run of operations, straight from the bytes of a list; and what the parts of the two calls tell each other.
+-- Inner: a run of operations, straight from the bytes of a list; and what the parts of the two calls tell each other.
 use Prim.Native.Nat.{ℕ, zero, suc, _+_, _<_, _≤_}
 use mathlib.Core.Bool.{Bool, true}
 use mathlib.Core.Path.{_≡_}
@@ -14,17 +14,10 @@ use Rattle.tuples.specs.Edit.{Edit, refuse, planOf, stop, next, perform, Run, r
 use Rattle.tuples.specs.declared.Refusal.{Refusal}
 use Rattle.tuples.specs.declared.Refusal.the-variants.{BadTuple, BadList, NoField, Unsuited, OutOfRange, TooLarge, LongUndo, ShortBuffer}
 use Rattle.engine.specs.Held.{fieldsIn, Fit}
-use Rattle.operations.specs.Found.{actionIn, endOf}
-use Rattle.operations.specs.Listing.{present}
-use Rattle.operations.specs.declared.Ended.the-variants.{At}
-use Rattle.operations.proofs.Opening.{actingIn}
+use Rattle.operations.specs.Listing.{isSome}
 use Rattle.computing.specs.Altering.{Unless}
 use Rattle.planning.specs.Plan.{Means}
-use Rattle.planning.specs.declared.Planned.{Planned}
-use Rattle.planning.specs.declared.Planned.the-variants.{Refuse, Alter, Bring, Cut}
 use Rattle.undo_lists.specs.Laying.{countedAll, laidAll, Piled}
-use Rattle.updates.specs.declared.run.Decoded.{Decoded}
-use Rattle.updates.specs.declared.run.Decoded.the-variants.{Is, Bad}
 use Rattle.updates.specs.declared.run.Prepared.{Prepared}
 use Rattle.updates.specs.declared.run.Stage.{Stage}
 use Rattle.updates.specs.declared.run.Stepped.{Stepped}
@@ -57,11 +50,6 @@ restFrom base (suc n) s = restFrom base n (after (operation base s))
 
 -- ---- what the parts of the two calls tell each other
 
--- an operation that was got, by its field number as it was sent, its action and the place after it
-abbrev pub Decodes : ℕ → Bytes → Decoded → Got Operation → Type 0
-Decodes base list (Is z x e) g = (actingIn base z (actionIn list x) ≡ g) × (endOf x ≡ At e)
-Decodes base list Bad g = g ≡ fails
-
 -- the place after an operation that was got
 abbrev pub Follows : Got Operation → Bytes → ℕ → Type 0
 Follows fails list e = Unit {0}
@@ -70,12 +58,6 @@ Follows (gets o s) list e = s ≡ drop e list
 pub record Prepares (room : ℕ) (r : Prepared) (list work : Bytes) (g : Got Operation) (t : Fields) : Type 0 where
   pub means : Means room t list work (r .plan) (planIn g t)
   pub follows : Follows g list (r .end)
-
-abbrev pub weightOf : Planned → ℕ
-weightOf (Refuse k) = 0
-weightOf (Alter f k) = 1
-weightOf (Bring f gone a e) = 1
-weightOf (Cut f m) = m
 
 -- after an operation: the fields of the definition are held, and what takes it back lies before what lay there
 pub record Onward (z : Stage) (scratch : Bytes) (lengths : List ℕ) (undo list undo₀ : Bytes) (z₀ : Stage) (g : Got Operation) (t : Fields) : Type 0 where
@@ -116,7 +98,7 @@ Runs (Refused k i) scratch lengths undo list base n s t = (runFrom base 0 n s t 
 Runs (Done z) scratch lengths undo list base n s t = Through z scratch lengths undo list base n s t
 
 -- where all were performed, they fill the list exactly where nothing stands after them
-abbrev pub Told : Ran → Bytes → ℕ → ℕ → Bytes → Type 0
-Told NoRoom list base n s = Unit {0}
-Told (Refused k i) list base n s = Unit {0}
-Told (Done z) list base n s = leb (length list) (z .at) ≡ present (operations base n s)
+abbrev pub FillsAtEnd : Ran → Bytes → ℕ → ℕ → Bytes → Type 0
+FillsAtEnd NoRoom list base n s = Unit {0}
+FillsAtEnd (Refused k i) list base n s = Unit {0}
+FillsAtEnd (Done z) list base n s = leb (length list) (z .at) ≡ isSome (operations base n s)

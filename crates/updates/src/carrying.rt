@@ -9,7 +9,7 @@ ghost use mathlib.Core.Path.{_≡_};
 ghost use lib.ListN.{length};
 ghost use Prim.Native.Nat.{_≤_};
 ghost use Rattle.tuples.specs.Limits.{maxFields};
-ghost use Rattle.updates.specs.Carrying.{Roomy, Carries};
+ghost use Rattle.updates.specs.Carrying.{HasRoom, Carries};
 
 pub(crate) fn carry_out(
     tuple: &[u8],
@@ -20,7 +20,7 @@ pub(crate) fn carry_out(
     work: &mut [u8],
     undo: &mut [u8],
 ) -> Ran
-    requires { ⌜ Roomy (now tuple) (now scratch) × (length (now scratch) ≤ length (now work)) × (length (now lengths) ≡ maxFields) ⌝ }
+    requires { ⌜ HasRoom (now tuple) (now scratch) × (length (now scratch) ≤ length (now work)) × (length (now lengths) ≡ maxFields) ⌝ }
     ensures { λ r. ⌜ Carries r (now (scratch .exit)) (now (lengths .exit)) (now (undo .exit)) (now (tuple .entry)) (now (list .entry)) base ⌝ }
 {
     let Loaded::Fields(n) = loading::load(tuple, scratch, lengths) else {

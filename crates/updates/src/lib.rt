@@ -16,7 +16,7 @@ ghost use lib.ListN.{length};
 ghost use Rattle.tuples.specs.Call.{delivered, updateCall, undoCall};
 ghost use Rattle.answers.specs.Seen.{seen};
 ghost use Rattle.updates.specs.Listing.{listIn, TriesUpdate, TriesUndo};
-ghost use Rattle.updates.specs.Carrying.{Roomy};
+ghost use Rattle.updates.specs.Carrying.{HasRoom};
 
 // Where tuple and list are at most so long, the new tuple has room in twice that, and the undo list
 // in three times that, but for rare cases.
@@ -38,7 +38,7 @@ fn update_in(
     work: &mut [u8],
     out: &mut [u8],
 ) -> Tried
-    requires { ⌜ Roomy (now tuple) (now scratch) × (length (now scratch) ≤ length (now work)) ⌝ }
+    requires { ⌜ HasRoom (now tuple) (now scratch) × (length (now scratch) ≤ length (now work)) ⌝ }
     ensures { λ r. ⌜ TriesUpdate r (now (scratch .entry)) (now (tuple .entry)) (now (list .entry)) «index_base» (now (out .entry)) (now (out .exit)) ⌝ }
 {
     let mut lengths = [0u16; MAX_FIELDS];
@@ -120,7 +120,7 @@ fn undo_in(
     back: &mut [u8],
     out: &mut [u8],
 ) -> Tried
-    requires { ⌜ Roomy (now tuple) (now scratch) × (length (now scratch) ≤ length (now work)) ⌝ }
+    requires { ⌜ HasRoom (now tuple) (now scratch) × (length (now scratch) ≤ length (now work)) ⌝ }
     ensures { λ r. ⌜ TriesUndo r (now (scratch .entry)) (now (back .entry)) (now (tuple .entry)) (now (list .entry)) «index_base» (now (out .entry)) (now (out .exit)) ⌝ }
 {
     let mut lengths = [0u16; MAX_FIELDS];

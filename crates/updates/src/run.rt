@@ -1,9 +1,6 @@
 // The operations of a list, from the first to the last.
 use engine::Edited;
-use msgpack_scalars::Int;
-use operations::Action;
-use operations::Ended;
-use operations::Opened;
+use operations::Decoded;
 use planning::Planned;
 use tuples::MAX_FIELDS;
 use tuples::MAX_TUPLE;
@@ -13,15 +10,9 @@ ghost use Prim.Native.Nat.{_*_, _<_, _≤_};
 ghost use lib.ListN.{length, drop};
 ghost use Rattle.tuples.specs.Limits.{maxFields, maxOperations};
 ghost use Rattle.tuples.specs.Operation.{operation, operations};
-ghost use Rattle.operations.specs.Listing.{present};
+ghost use Rattle.operations.specs.Listing.{isSome};
 ghost use Rattle.engine.specs.Held.{fieldsIn, Fit};
-ghost use Rattle.updates.specs.Running.{Decodes, Prepares, weightOf, Steps, certainly, Runs, Told};
-
-// An operation's field number as it was sent, its action, and the place after it.
-enum Decoded {
-    Is(Int, Action, usize),
-    Bad,
-}
+ghost use Rattle.updates.specs.Running.{Prepares, Steps, certainly, Runs, FillsAtEnd};
 
 // A plan, and the place of the next operation.
 struct Prepared {
@@ -51,19 +42,6 @@ pub(crate) enum Ran {
     Done(Stage),
 }
 
-fn operation_at(list: &[u8], at: usize, base: u64) -> Decoded
-    ensures { λ r. ⌜ Decodes base (now (list .entry)) r (operation base (drop at (now (list .entry)))) ⌝ }
-{
-    let Opened::Is(count, mark, number, after) = operations::opening_at(list, at) else {
-        return Decoded::Bad;
-    };
-    let action = operations::action_at(list, after, count, mark, base);
-    let Ended::At(end) = operations::end_of(action) else {
-        return Decoded::Bad;
-    };
-    Decoded::Is(number, action, end)
-}
-
 // The operation at `at`, planned on the n fields that are held.
 fn prepare(
     list: &[u8],
@@ -78,7 +56,7 @@ fn prepare(
     ensures { λ r. ⌜ Prepares (length (now (scratch .entry))) r (now (list .entry)) (now (work .exit)) (operation base (drop at (now (list .entry))))
         (fieldsIn (now (scratch .entry)) (now (lengths .entry)) n) ⌝ }
 {
-    let Decoded::Is(number, action, end) = operation_at(list, at, base) else {
+    let Decoded::Is(number, action, end) = operations::operation_at(list, at, base) else {
         return Prepared {
             plan: Planned::Refuse(Refusal::BadList),
             end: at,
@@ -94,18 +72,6 @@ fn prepare(
         work,
     );
     Prepared { plan, end }
-}
-
-// How many operations take a plan back.
-fn weight(plan: Planned) -> usize
-    ensures { λ r. ⌜ r ≡ weightOf plan ⌝ }
-{
-    match plan {
-        Planned::Refuse(_) => 0,
-        Planned::Alter(_, _) => 1,
-        Planned::Bring(_, _, _, _) => 1,
-        Planned::Cut(_, m) => m,
-    }
 }
 
 // The operation that stands next. What takes it back is laid before it is performed.
@@ -131,7 +97,7 @@ fn step(
         Edited::Stop(refusal) => Stepped::Stop(refusal),
         Edited::Next(n) => Stepped::Next(Stage {
             fields: n,
-            laid: stage.laid + weight(plan),
+            laid: stage.laid + undo_lists::inverse_count(plan),
             bytes,
             at: next.end,
         }),
@@ -198,8 +164,8 @@ pub(crate) fn run(
 // Whether the operations fill the list: where all were performed, whether the list ends there; else
 // they are read again, all of them, since a list that is refused is refused before any of them.
 pub(crate) fn filled(list: &[u8], start: usize, count: usize, base: u64, ran: Ran) -> bool
-    requires { ⌜ Told ran (now list) base count (drop start (now list)) ⌝ }
-    ensures { λ r. ⌜ r ≡ present (operations base count (drop start (now (list .entry)))) ⌝ }
+    requires { ⌜ FillsAtEnd ran (now list) base count (drop start (now list)) ⌝ }
+    ensures { λ r. ⌜ r ≡ isSome (operations base count (drop start (now (list .entry)))) ⌝ }
 {
     match ran {
         Ran::NoRoom => operations::fill_list(list, start, count, base),

@@ -6,11 +6,6 @@ use borrow.Author.Needs.{needs}
 use Rattle.computing.proofs.sum_field.Statement.{statement}
 use Rattle.computing.proofs.sum_field.Tie as tie
 
-returns : tie.Need-returns
-returns c =
-    let a = c .before .before .before .before .before .args in
-    rw (← (Numbers.sum-unsuited (a .minus) (a .v) (a .field .now) (c .before .before .any-integer .ensures) (c .enum-told .given .1))) (refl, refl)
-
 returns-2 : tie.Need-returns-2
 returns-2 c =
     let a = c .before .before .before .before .before .before .before .before .before .before .before .args in
@@ -18,5 +13,9 @@ returns-2 c =
 
 pub sum-field-spec : {M : Type 1} → statement M
 sum-field-spec =
-    tie.close (tie.spec (λ c κs. search needs) (λ c. search needs) (λ c. search needs) returns (λ c κs. search needs)
-    (λ c κs. subst SumInRange (sym (c .before .total .ensures)) (Numbers.sum-in-range _)) (λ c. search needs) returns-2)
+    tie.close (tie.spec (λ c κs. search needs) (λ c. search needs) (λ c. search needs)
+    (λ c. let a = c .before .before .before .before .before .args in
+    rw (← (Numbers.sum-unsuited (a .minus) (a .v) (a .field .now) (c .before .before .any-integer .ensures) (c .enum-told .given .1)))
+    (refl, refl))
+    (λ c κs. search needs) (λ c κs. subst SumInRange (sym (c .before .total .ensures)) (Numbers.sum-in-range _))
+    (λ c. search needs) returns-2)

@@ -21,39 +21,21 @@ found c =
 header : (c : tie.After-array-header-length) → (let a = c .before .before .before .before .before .before .before .before .before .before .args in Long 5 (arrayHeader (a .n - a .gone + a .more)))
 header c = let a = c .before .before .before .before .before .before .before .before .before .before .args in array-long (a .n - a .gone + a .more)
 
-returns-3 : tie.Need-returns-3
-returns-3 c =
-    let e = c .before in
-    let a = e .before .before .before .before .before .before .args in
-    stop-unheld _ _ _ _ _ _ _ (unheld _ _ _ (end-unheld (a .lengths .now) (a .n) (omega (arith, e .end-after2 .ensures))))
-
-returns-4 : tie.Need-returns-4
-returns-4 c = stop-unheld _ _ _ _ _ _ _ (out-of-room _ _ _ (c .before .before .end-after2 .ensures) (c .before .if3 .left) (c .if4 .taken))
-
-returns-6 : tie.Need-returns-6
-returns-6 c =
-    let h = header (c .before) in
-    let r = c .before .before .before in
-    stop-long _ _ _ _ _ _ _ (found (r .before)) (r .if4 .left) (omega arith) (omega arith)
-
-returns-7 : tie.Need-returns-7
-returns-7 c =
-    let r = c .before .before .before .before in
-    stop-room _ _ _ _ _ _ _ (found (r .before)) (r .if4 .left) (c .if7 .taken)
-
-returns-8 : tie.Need-returns-8
-returns-8 c =
-    let h = header (c .before .before) in
-    let r = c .before .before .before .before in
-    go-on _ _ _ _ _ _ _ (found (r .before)) (r .if4 .left) (omega arith) (omega arith) (c .if7 .left)
-
 pub decide-spec : {M : Type 1} → statement M
 decide-spec =
-    tie.close (tie.spec (λ c κs. search needs) (λ c. c .stopped .ensures ∙ stop-past _ _ _ _ _ _ _ (omega arith))
-    (λ c κs. search needs) (λ c. c .stopped2 .ensures ∙ stop-past _ _ _ _ _ _ _ (omega arith)) (λ c κs. search needs)
-    (λ c. search needs) (λ c κs. search needs) (λ c. search needs) (λ c κs. search needs) returns-3 returns-4
+    tie.close (tie.spec (λ c κs. search needs) (λ c. c .stopped .ensures ∙ stop-past _ _ _ _ _ _ _ (omega arith)) (λ c κs. search needs)
+    (λ c. c .stopped2 .ensures ∙ stop-past _ _ _ _ _ _ _ (omega arith)) (λ c κs. search needs) (λ c. search needs)
+    (λ c κs. search needs) (λ c. search needs) (λ c κs. search needs)
+    (λ c. let e = c .before in let a = e .before .before .before .before .before .before .args in
+    stop-unheld _ _ _ _ _ _ _ (unheld _ _ _ (end-unheld (a .lengths .now) (a .n) (omega (arith, e .end-after2 .ensures)))))
+    (λ c. stop-unheld _ _ _ _ _ _ _ (out-of-room _ _ _ (c .before .before .end-after2 .ensures) (c .before .if3 .left) (c .if4 .taken)))
     (λ c. search needs) (λ c. let s = found (c .before) in omega (arith, s .holding .rows))
     (λ c. stop-large _ _ _ _ _ _ _ (found (c .before .before)) (c .before .if4 .left) (c .if5 .taken))
     (λ c. let s = found (c .before .before) in omega arith) (λ c. let s = found (c .before .before) in omega arith)
     (λ c. let s = found (c .before .before) in omega arith) (λ c. search needs) (λ c κs. search needs)
-    (λ c. let h = header c in omega arith) returns-6 returns-7 returns-8)
+    (λ c. let h = header c in omega arith)
+    (λ c. let h = header (c .before) in let r = c .before .before .before in
+    stop-long _ _ _ _ _ _ _ (found (r .before)) (r .if4 .left) (omega arith) (omega arith))
+    (λ c. let r = c .before .before .before .before in stop-room _ _ _ _ _ _ _ (found (r .before)) (r .if4 .left) (c .if7 .taken))
+    (λ c. let h = header (c .before .before) in let r = c .before .before .before .before in
+    go-on _ _ _ _ _ _ _ (found (r .before)) (r .if4 .left) (omega arith) (omega arith) (c .if7 .left)))

@@ -25,20 +25,8 @@ decision d =
 going : (k : tie.After-known-told2) → (let a = k .before .before .before .before .before .before .before .before .args in Going (a .scratch .now) (a .lengths .now) (a .n) (a .f) (a .gone) (rowsOf (a .more) (a .piece .now)) (a .piece .now) (k .before .bytes .given .0 .0) (k .before .bytes .given .0 .1 .0) (k .before .bytes .given .0 .1 .1 .0))
 going k = rw (k .before .bytes .given .1) at (decision (k .before .before .before))
 
-slice-aggregate-splice-lengths : tie.Need-slice-aggregate-splice-lengths
-slice-aggregate-splice-lengths c =
-    let o = c .before .before .before .before .before .before .before .before .before .before .before .before .before .before in
-    sym (rows (o .args .more) (o .args .piece .now) (o .pre .1))
-
 sub-t22 : tie.Need-sub-t22
 sub-t22 c = let g = going (c .before .before .before .before .before .before .before .before .before) in omega (arith, g .replacing .part)
-
-add-t28 : tie.Need-add-t28
-add-t28 c =
-    let k = c .before .before .before .before .before .before .before .before .before in
-    let o = k .before .before .before .before .before .before .before .before in
-    let e = rows (o .args .more) (o .args .piece .now) (o .pre .1) in
-    omega (arith, going k .few)
 
 returns-2 : tie.Need-returns-2
 returns-2 c =
@@ -54,6 +42,11 @@ pub edit-fields-spec : {M : Type 1} → statement M
 edit-fields-spec =
     tie.close (tie.spec (λ c κs. search needs) (λ c. search needs) (λ c. search needs) (λ c κs. search needs)
     (λ c. let g = going (c .before .before .before .before) in omega (arith, g .short)) (λ c. search needs)
-    slice-aggregate-splice-lengths (λ c κs. search needs) sub-t22 add-t28 (λ c. search needs)
-    (λ c. stopped (rw (c .before .refusal .given .1) at (decision (c .before .before .before)))) (λ c. search needs)
-    (λ c. search needs) returns-2)
+    (λ c. let o = c .before .before .before .before .before .before .before .before .before .before .before .before .before .before in
+    sym (rows (o .args .more) (o .args .piece .now) (o .pre .1)))
+    (λ c κs. search needs) sub-t22
+    (λ c. let k = c .before .before .before .before .before .before .before .before .before in
+    let o = k .before .before .before .before .before .before .before .before in
+    let e = rows (o .args .more) (o .args .piece .now) (o .pre .1) in omega (arith, going k .few))
+    (λ c. search needs) (λ c. stopped (rw (c .before .refusal .given .1) at (decision (c .before .before .before))))
+    (λ c. search needs) (λ c. search needs) returns-2)

@@ -16,33 +16,6 @@ Inv-loop lengths i start n end₀ j₀ end j = (j ≤ n) × (end ≡ sum (take j
 abbrev μ-loop : tie.MeasureT-loop
 μ-loop lengths i start n end₀ j₀ end j = n - j
 
-returns-3 : tie.Need-returns-3 Inv-loop μ-loop
-returns-3 c =
-    let o = c .before .before .before in
-    let a = o .args in
-    end-further (a .lengths .now) (a .i) (a .n) (o .pre .0) (o .pre .1) (c .if3 .taken)
-
-loop-holds : tie.Need-loop-holds Inv-loop μ-loop
-loop-holds c =
-    let o = c .before .before .before in
-    let a = o .args in
-    (o .pre .0, end-start (a .lengths .now) (a .i) (o .pre .1) (c .if3 .left), omega (arith, c .if3 .left))
-
-loop-again : tie.Need-loop-again Inv-loop μ-loop
-loop-again c =
-    let l = c .before .before in
-    let e = sum-next (l .before .before .before .before .args .lengths .now) (l .loop .j) (omega arith) in
-    let b = c .shared-slice-known .given (l .loop .j) in
-    (omega arith, omega arith, omega arith)
-
-returns-4 : tie.Need-returns-4 Inv-loop μ-loop
-returns-4 c =
-    let l = c .before .before in
-    let a = l .before .before .before .before .args in
-    let e : l .loop .j ≡ a .n = omega arith in
-    let s : l .loop .end ≡ sum (take (a .n) (a .lengths .now)) = l .loop .inv .1 ∙ rw e in
-    end-not _ _ (λ h. omega (arith, h .short, s, c .if4 .taken))
-
 returns-5 : tie.Need-returns-5 Inv-loop μ-loop
 returns-5 c =
     let l = c .before .before in
@@ -53,9 +26,20 @@ returns-5 c =
 
 pub end-after-spec : {M : Type 1} → statement M
 end-after-spec =
-    tie.close (tie.spec Inv-loop μ-loop (λ c. omega arith) (λ c. end-not _ _ (λ h. omega (arith, h .few, c .if1 .taken)))
-    (λ c. omega arith) (λ c. end-not _ _ (λ h. omega (arith, h .rows, c .if2 .taken))) (λ c. omega arith) returns-3
-    loop-holds (λ c. omega arith) (λ c. omega arith)
-    (λ c. let b = c .shared-slice-known .given (c .before .before .loop .j) in omega arith)
-    (λ c. let b = c .shared-slice-known .given (c .before .before .loop .j) in omega arith) (λ c. omega arith)
-    (λ c. omega arith) loop-again (λ c. omega arith) returns-4 returns-5)
+    tie.close (tie.spec Inv-loop μ-loop (λ c. omega arith) (λ c. end-not _ _ (λ h. omega (arith, h .few, c .if1 .taken))) (λ c. omega arith)
+    (λ c. end-not _ _ (λ h. omega (arith, h .rows, c .if2 .taken))) (λ c. omega arith)
+    (λ c. let o = c .before .before .before in let a = o .args in
+    end-further (a .lengths .now) (a .i) (a .n) (o .pre .0) (o .pre .1) (c .if3 .taken))
+    (λ c. let o = c .before .before .before in let a = o .args in
+    (o .pre .0, end-start (a .lengths .now) (a .i) (o .pre .1) (c .if3 .left), omega (arith, c .if3 .left)))
+    (λ c. omega arith) (λ c. omega arith) (λ c. let b = c .shared-slice-known .given (c .before .before .loop .j) in omega arith)
+    (λ c. let b = c .shared-slice-known .given (c .before .before .loop .j) in omega arith) (λ c. omega arith) (λ c. omega arith)
+    (λ c. let l = c .before .before in
+    let e = sum-next (l .before .before .before .before .args .lengths .now) (l .loop .j) (omega arith) in
+    let b = c .shared-slice-known .given (l .loop .j) in (omega arith, omega arith, omega arith))
+    (λ c. omega arith)
+    (λ c. let l = c .before .before in let a = l .before .before .before .before .args in
+    let e : l .loop .j ≡ a .n = omega arith in
+    let s : l .loop .end ≡ sum (take (a .n) (a .lengths .now)) = l .loop .inv .1 ∙ rw e in
+    end-not _ _ (λ h. omega (arith, h .short, s, c .if4 .taken)))
+    returns-5)

@@ -13,19 +13,6 @@ use Rattle.loading.proofs.lay.Tie as tie
 read : (k : tie.After-known-told) → (let a = k .before .before .before .before .before .before .before .before .before .before .args in Whole (k .before .end .given .0 .0) ≡ shift (a .at) (items (value fieldDepth) (a .n) (drop (a .at) (a .tuple .now))))
 read k = sym (k .before .end .given .1) ∙ k .before .before .before .before .before .measure .ensures .0
 
-returns : tie.Need-returns
-returns c =
-    let m = c .before .before .before .before in
-    let a = m .before .before .before .before .before .args in
-    laid-broken (a .n) (a .at) (a .tuple .now) (m .measure .ensures .1) (sym (c .enum-told .given .1) ∙ m .measure .ensures .0)
-
-returns-2 : tie.Need-returns-2
-returns-2 c =
-    let k = c .before in
-    let m = k .before .before .before .before .before in
-    let a = m .before .before .before .before .before .args in
-    laid-short (a .n) (a .at) (a .tuple .now) (m .measure .ensures .1) (omega arith) (read k) (c .if1 .taken)
-
 returns-3 : tie.Need-returns-3
 returns-3 c =
     let w = c .before .before in
@@ -36,6 +23,12 @@ returns-3 c =
 
 pub lay-spec : {M : Type 1} → statement M
 lay-spec =
-    tie.close (tie.spec (λ c κs. search needs) (λ c. search needs) (λ c. search needs) (λ c. search needs) returns (λ c. search needs)
-    returns-2 (λ c. search needs) (λ c. search needs) (λ c. search needs) (λ c κs. search needs) (λ c. search needs)
-    (λ c. search needs) returns-3)
+    tie.close (tie.spec (λ c κs. search needs) (λ c. search needs) (λ c. search needs) (λ c. search needs)
+    (λ c. let m = c .before .before .before .before in let a = m .before .before .before .before .before .args in
+    laid-broken (a .n) (a .at) (a .tuple .now) (m .measure .ensures .1) (sym (c .enum-told .given .1) ∙ m .measure .ensures .0))
+    (λ c. search needs)
+    (λ c. let k = c .before in let m = k .before .before .before .before .before in
+    let a = m .before .before .before .before .before .args in
+    laid-short (a .n) (a .at) (a .tuple .now) (m .measure .ensures .1) (omega arith) (read k) (c .if1 .taken))
+    (λ c. search needs) (λ c. search needs) (λ c. search needs) (λ c κs. search needs) (λ c. search needs) (λ c. search needs)
+    returns-3)

@@ -16,19 +16,6 @@ opened k = header-is _ (sym (k .before .n .given .1) ∙ k .before .before .befo
 returns-2 : tie.Need-returns-2
 returns-2 c = let t = c .before .before .before .before .args .tuple .now in in-room t (c .before .if1 .left) (long-tuple t (c .if2 .taken))
 
-returns-3 : tie.Need-returns-3
-returns-3 c =
-    let g = c .before .before in
-    let t = g .before .before .before .before .before .args .tuple .now in
-    in-room t (g .before .before .if1 .left) (no-array t (g .before .if2 .left) (header-other _ (sym (c .enum-told .given .1) ∙ g .header-at .ensures)))
-
-returns-4 : tie.Need-returns-4
-returns-4 c =
-    let k = c .before in
-    let i = k .before .before .before .before in
-    let t = i .before .before .before .before .args .tuple .now in
-    in-room t (i .before .if1 .left) (many-fields t (i .if2 .left) (opened k) (c .if3 .taken))
-
 lay-requires : tie.Need-lay-requires
 lay-requires c κs = let q = array-short _ _ _ (omega arith) (opened (c .before .before .before)) in record { place = q .1; short = omega arith; few = omega arith; room = omega arith; rows = search needs }
 
@@ -43,4 +30,11 @@ returns-5 c =
 pub load-spec : {M : Type 1} → statement M
 load-spec =
     tie.close (tie.spec (λ c. no-room (c .before .before .before .args .tuple .now) (c .if1 .taken)) returns-2 (λ c κs. search needs)
-    (λ c. search needs) (λ c. search needs) returns-3 returns-4 lay-requires (λ c. search needs) returns-5)
+    (λ c. search needs) (λ c. search needs)
+    (λ c. let g = c .before .before in let t = g .before .before .before .before .before .args .tuple .now in in-room t
+    (g .before .before .if1 .left)
+    (no-array t (g .before .if2 .left) (header-other _ (sym (c .enum-told .given .1) ∙ g .header-at .ensures))))
+    (λ c. let k = c .before in let i = k .before .before .before .before in
+    let t = i .before .before .before .before .args .tuple .now in
+    in-room t (i .before .if1 .left) (many-fields t (i .if2 .left) (opened k) (c .if3 .taken)))
+    lay-requires (λ c. search needs) returns-5)

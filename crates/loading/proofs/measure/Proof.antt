@@ -27,27 +27,16 @@ whole c = sym (c .before .end .given .1) ∙ c .before .before .before .read-val
 loop-holds : tie.Need-loop-holds Inv-loop μ-loop
 loop-holds c = let a = c .before .before .args in (omega arith, refl, begin (value fieldDepth) (a .tuple .now) (a .from) (a .n) (a .lengths .now))
 
-returns : tie.Need-returns Inv-loop μ-loop
-returns c =
-    let r = c .before .before .before in
-    let l = r .before .before in
-    next-broken (value-good fieldDepth) (l .loop .inv .2) (omega arith) (omega arith) (sym (c .before .place .given .1) ∙ r .read-value .ensures)
-
-cast-lengths : tie.Need-cast-lengths Inv-loop μ-loop
-cast-lengths c =
-    let l = at-loop c in
-    let e = length-there (value-good fieldDepth) (l .loop .inv .2) (omega arith) (whole c) in
-    omega (arith, l .before .before .before .pre .1)
-
-loop-again : tie.Need-loop-again Inv-loop μ-loop
-loop-again c =
-    let l = at-loop c in
-    (omega arith, simp length-set (omega arith), next-whole (value-good fieldDepth) (l .loop .inv .2) (omega arith) (omega arith) (whole c))
-
 pub measure-spec : {M : Type 1} → statement M
 measure-spec =
-    tie.close (tie.spec Inv-loop μ-loop loop-holds (λ c κs. search needs) (λ c. search needs) (λ c. search needs) returns
+    tie.close (tie.spec Inv-loop μ-loop loop-holds (λ c κs. search needs) (λ c. search needs) (λ c. search needs)
+    (λ c. let r = c .before .before .before in let l = r .before .before in next-broken (value-good fieldDepth) (l .loop .inv .2)
+    (omega arith) (omega arith) (sym (c .before .place .given .1) ∙ r .read-value .ensures))
     (λ c. search needs)
     (λ c. let e = place-after (value-good fieldDepth) (at-loop c .loop .inv .2) (omega arith) (whole c) in omega arith)
-    cast-lengths (λ c. search needs) (λ c. search needs) (λ c. search needs) (λ c. search needs) loop-again
+    (λ c. let l = at-loop c in let e = length-there (value-good fieldDepth) (l .loop .inv .2) (omega arith) (whole c) in
+    omega (arith, l .before .before .before .pre .1))
+    (λ c. search needs) (λ c. search needs) (λ c. search needs) (λ c. search needs)
+    (λ c. let l = at-loop c in
+    (omega arith, simp length-set (omega arith), next-whole (value-good fieldDepth) (l .loop .inv .2) (omega arith) (omega arith) (whole c)))
     (λ c. search needs) (λ c. let l = c .before in all-whole (l .loop .inv .2) (omega arith) (omega arith)))

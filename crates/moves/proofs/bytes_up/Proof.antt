@@ -21,15 +21,9 @@ loop-again c =
     let a = l .before .args in
     (omega arith, simp length-set (omega arith), up-turn (a .s .now) (l .loop .s) (a .from) (a .to) (a .n) (l .loop .i) (l .loop .inv .2) (omega arith) (omega arith) (omega arith) (omega arith))
 
-returns : tie.Need-returns Inv-loop μ-loop
-returns c =
-    let l = c .before in
-    let e : l .loop .i ≡ 0 = omega arith in
-    l .loop .inv .2 ∙ rw (e, add-zero, add-zero, sub-zero)
-
 pub bytes-up-spec : {M : Type 1} → statement M
 bytes-up-spec =
-    tie.close (tie.spec Inv-loop μ-loop
-    (λ c. (omega arith, refl, up-begin (c .args .s .now) (c .args .from) (c .args .to) (c .args .n))) (λ c. omega arith)
-    (λ c. omega arith) (λ c. omega arith) (λ c. omega arith) (λ c. omega arith) (λ c. omega arith) loop-again
-    (λ c. omega arith) returns)
+    tie.close (tie.spec Inv-loop μ-loop (λ c. (omega arith, refl, up-begin (c .args .s .now) (c .args .from) (c .args .to) (c .args .n)))
+    (λ c. omega arith) (λ c. omega arith) (λ c. omega arith) (λ c. omega arith) (λ c. omega arith) (λ c. omega arith) loop-again
+    (λ c. omega arith)
+    (λ c. let l = c .before in let e : l .loop .i ≡ 0 = omega arith in l .loop .inv .2 ∙ rw (e, add-zero, add-zero, sub-zero)))

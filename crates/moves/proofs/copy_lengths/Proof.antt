@@ -20,15 +20,10 @@ loop-again c =
     let a = l .before .args in
     (omega arith, simp length-set (omega arith), copy-turn (a .s .now) (a .piece .now) (l .loop .s) (a .at) (l .loop .i) (l .loop .inv .2) (omega arith) (omega arith))
 
-returns : tie.Need-returns Inv-loop μ-loop
-returns c =
-    let l = c .before in
-    let a = l .before .args in
-    let e : l .loop .i ≡ length (a .piece .now) = omega arith in
-    l .loop .inv .2 ∙ rw e (copied (a .s .now) (a .piece .now) (a .at) (omega arith))
-
 pub copy-lengths-spec : {M : Type 1} → statement M
 copy-lengths-spec =
     tie.close (tie.spec Inv-loop μ-loop (λ c. (omega arith, refl, paste-zero (c .args .s .now) (c .args .at) (c .args .piece .now)))
     (λ c. omega arith) (λ c. omega arith) (λ c. omega arith) (λ c. omega arith) (λ c. omega arith) (λ c. omega arith)
-    (λ c. omega arith) loop-again (λ c. omega arith) returns)
+    (λ c. omega arith) loop-again (λ c. omega arith)
+    (λ c. let l = c .before in let a = l .before .args in let e : l .loop .i ≡ length (a .piece .now) = omega arith in
+    l .loop .inv .2 ∙ rw e (copied (a .s .now) (a .piece .now) (a .at) (omega arith))))

@@ -20,15 +20,10 @@ loop-again c =
     let a = l .before .args in
     (omega arith, simp length-set (omega arith), down-turn (a .s .now) (l .loop .s) (a .from) (a .to) (l .loop .i) (l .loop .inv .2) (omega arith) (omega arith))
 
-returns : tie.Need-returns Inv-loop μ-loop
-returns c =
-    let l = c .before in
-    let e : l .loop .i ≡ l .before .args .n = omega arith in
-    l .loop .inv .2 ∙ rw e
-
 pub lengths-down-spec : {M : Type 1} → statement M
 lengths-down-spec =
     tie.close (tie.spec Inv-loop μ-loop
     (λ c. (omega arith, refl, paste-zero (c .args .s .now) (c .args .to) (drop (c .args .from) (c .args .s .now))))
     (λ c. omega arith) (λ c. omega arith) (λ c. omega arith) (λ c. omega arith) (λ c. omega arith) (λ c. omega arith)
-    (λ c. omega arith) (λ c. omega arith) loop-again (λ c. omega arith) returns)
+    (λ c. omega arith) (λ c. omega arith) loop-again (λ c. omega arith)
+    (λ c. let l = c .before in let e : l .loop .i ≡ l .before .args .n = omega arith in l .loop .inv .2 ∙ rw e))

@@ -1,38 +1,31 @@
 -- What was read is what the definition gets; a number of one byte is told by it. Assumes nothing.
-use mathlib.Core.Path.{sym, _∙_}
+use mathlib.Core.Path.{_≡_, sym, _∙_}
 use native.Mathlib.Omega.{arith}
+use lib.ListN.{drop}
+use Rattle.msgpack_scalars.specs.declared.Integer.{Integer}
 use Rattle.msgpack_scalars.proofs.Short.{integer-past, integer-small}
-use Rattle.parts.proofs.Reading.{integer-at}
+use Rattle.tuples.specs.Decoding.{anyInteger}
+use Rattle.parts.specs.Part.{signedBy}
+use Rattle.parts.proofs.Reading.{signedOf, integer-at}
 use borrow.Author.Needs.{needs}
 use Rattle.numbers.proofs.any_integer.Statement.{statement}
 use Rattle.numbers.proofs.any_integer.Tie as tie
 
-returns : tie.Need-returns
-returns c =
-    let a = c .before .before .args in
-    integer-at (a .s .now) (a .at) _ (integer-past (a .s .now) (a .at) (c .if1 .taken))
+-- by the integer x that was read
+told : (c : tie.After-integer-at) {x : Integer} → c .integer-at .result ≡ x
+    → (let a = c .before .before .before .before .before .args in signedOf x ≡ signedBy (a .s .now) (anyInteger (drop (a .at) (a .s .now))))
+told c q = let a = c .before .before .before .before .before .args in integer-at (a .s .now) (a .at) _ (sym q ∙ c .integer-at .ensures)
 
 returns-2 : tie.Need-returns-2
 returns-2 c =
     let a = c .before .before .before .before .args in
     integer-at (a .s .now) (a .at) _ (integer-small (a .s .now) (a .at) (omega (arith, c .before .before .if1 .left)) (c .if2 .taken))
 
-returns-3 : tie.Need-returns-3
-returns-3 c =
-    let a = c .before .before .before .before .before .before .before .before .args in
-    integer-at (a .s .now) (a .at) _ (sym (c .before .z .given .1) ∙ c .before .before .before .integer-at .ensures)
-
-returns-4 : tie.Need-returns-4
-returns-4 c =
-    let a = c .before .before .before .before .before .before .before .args in
-    integer-at (a .s .now) (a .at) _ (sym (c .enum-told .given .1) ∙ c .before .before .integer-at .ensures)
-
-returns-5 : tie.Need-returns-5
-returns-5 c =
-    let a = c .before .before .before .before .before .before .before .args in
-    integer-at (a .s .now) (a .at) _ (sym (c .enum-told2 .given .1) ∙ c .before .before .integer-at .ensures)
-
 pub any-integer-spec : {M : Type 1} → statement M
 any-integer-spec =
-    tie.close (tie.spec returns (λ c. search needs) (λ c. search needs) (λ c. search needs) returns-2 (λ c κs. search needs)
-    (λ c. search needs) (λ c. search needs) (λ c. search needs) returns-3 returns-4 returns-5)
+    tie.close (tie.spec
+    (λ c. let a = c .before .before .args in integer-at (a .s .now) (a .at) _ (integer-past (a .s .now) (a .at) (c .if1 .taken)))
+    (λ c. search needs) (λ c. search needs) (λ c. search needs) returns-2 (λ c κs. search needs)
+    (λ c. search needs) (λ c. search needs) (λ c. search needs)
+    (λ c. told (c .before .before .before) (c .before .z .given .1)) (λ c. told (c .before .before) (c .enum-told .given .1))
+    (λ c. told (c .before .before) (c .enum-told2 .given .1)))

@@ -1,26 +1,23 @@
 -- An integer, from which the base is taken off. Assumes nothing.
+use mathlib.Core.Path.{_≡_}
 use lib.ListN.{drop}
-use Rattle.parts.proofs.Steps as Steps
+use Rattle.tuples.specs.Decoding.{less, position}
+use Rattle.parts.specs.Part.{naturalBy}
+use Rattle.numbers.specs.FieldNumber.{fieldBy}
+use Rattle.parts.specs.declared.Signed.{Signed}
+use Rattle.numbers.proofs.Numbers.{onSigned, fieldIn, position-is}
 use borrow.Author.Needs.{needs}
 use Rattle.numbers.proofs.position_at.Statement.{statement}
 use Rattle.numbers.proofs.position_at.Tie as tie
 
-returns : tie.Need-returns
-returns c =
-    let a = c .before .before .before .before .args in
-    Steps.position-none (a .s .now) (drop (a .at) (a .s .now)) (c .before .before .any-integer .ensures) (a .base) (c .enum-told .given .1)
-
-returns-2 : tie.Need-returns-2
-returns-2 c =
-    let a = c .before .before .before .before .before .before .before .before .args in
-    Steps.position-below (a .s .now) (drop (a .at) (a .s .now)) (c .before .before .before .before .before .before .any-integer .ensures) (a .base) (c .before .before .before .before .z .given .1) (c .before .before .field-of .ensures) (c .enum-told2 .given .1)
-
-returns-3 : tie.Need-returns-3
-returns-3 c =
-    let a = c .before .before .before .before .before .before .before .before .before .args in
-    Steps.position-is (a .s .now) (drop (a .at) (a .s .now)) (c .before .before .before .before .before .before .before .any-integer .ensures) (a .base) (c .before .before .before .before .before .z .given .1) (c .before .before .before .field-of .ensures) (c .before .p .given .1)
+-- by the integer x that was read
+told : (c : tie.After-any-integer) {x : Signed} → c .any-integer .result ≡ x → (let a = c .before .before .args in
+    onSigned (λ z. fieldIn (fieldBy (less (a .base) z))) x ≡ naturalBy (a .s .now) (position (a .base) (drop (a .at) (a .s .now))))
+told c q = let a = c .before .before .args in position-is (a .s .now) (drop (a .at) (a .s .now)) (c .any-integer .ensures) (a .base) q
 
 pub position-at-spec : {M : Type 1} → statement M
 position-at-spec =
-    tie.close (tie.spec (λ c κs. search needs) (λ c. search needs) (λ c. search needs) returns (λ c κs. search needs)
-    (λ c. search needs) (λ c. search needs) returns-2 returns-3)
+    tie.close (tie.spec (λ c κs. search needs) (λ c. search needs) (λ c. search needs)
+    (λ c. told (c .before .before) (c .enum-told .given .1)) (λ c κs. search needs) (λ c. search needs) (λ c. search needs)
+    (λ c. rw (← (c .before .before .field-of .ensures), c .enum-told2 .given .1) at (told (c .before .before .before .before .before .before) (c .before .before .before .before .z .given .1)))
+    (λ c. rw (← (c .before .before .before .field-of .ensures), c .before .p .given .1) at (told (c .before .before .before .before .before .before .before) (c .before .before .before .before .before .z .given .1))))

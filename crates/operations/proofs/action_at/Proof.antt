@@ -1,17 +1,12 @@
 -- By the count of the array. Assumes nothing.
-use lib.ListN.{drop}
 use Rattle.tuples.specs.Operation.{actionOf}
 use Rattle.operations.proofs.Actions.{action-other}
 use borrow.Author.Needs.{needs}
 use Rattle.operations.proofs.action_at.Statement.{statement}
 use Rattle.operations.proofs.action_at.Tie as tie
 
-returns-3 : tie.Need-returns-3
-returns-3 c =
-    let a = c .before .before .before .args in
-    (action-other (a .base) (a .count) (a .mark) (drop (a .at) (a .list .now)) (c .before .if1 .left) (c .if2 .left), tt)
-
 pub action-at-spec : {M : Type 1} → statement M
 action-at-spec =
     tie.close (tie.spec (λ c κs. search needs) (λ c. unfold actionOf in rw (c .before .if1 .taken) (c .three-at .ensures))
-    (λ c κs. search needs) (λ c. unfold actionOf in rw (c .before .if2 .taken) (c .five-at .ensures)) returns-3)
+    (λ c κs. search needs) (λ c. unfold actionOf in rw (c .before .if2 .taken) (c .five-at .ensures))
+    (λ c. action-other _ _ _ _ _ (c .before .if1 .left) (c .if2 .left)))

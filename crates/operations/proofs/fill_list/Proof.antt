@@ -4,14 +4,14 @@ use Prim.Native.Nat.{ℕ, suc, _-_}
 use mathlib.Core.Path.{_≡_, refl, sym, ap, _∙_}
 use lib.ListN.{drop}
 use Rattle.tuples.specs.Operation.{operations}
-use Rattle.operations.specs.Listing.{present}
+use Rattle.operations.specs.Listing.{isSome}
 use Rattle.operations.proofs.Listing.{operations-next, operations-bad, operations-end}
 use borrow.Author.Needs.{needs}
 use Rattle.operations.proofs.fill_list.Statement.{statement}
 use Rattle.operations.proofs.fill_list.Tie as tie
 
 abbrev Inv-loop : tie.InvT-loop
-Inv-loop list start count base at₀ left₀ at left = present (operations base left (drop at list)) ≡ present (operations base count (drop start list))
+Inv-loop list start count base at₀ left₀ at left = isSome (operations base left (drop at list)) ≡ isSome (operations base count (drop start list))
 
 abbrev μ-loop : tie.MeasureT-loop
 μ-loop list start count base at₀ left₀ at left = left
@@ -23,7 +23,7 @@ returns c =
     let l = a .list .now in
     let e : o .loop .left ≡ suc (o .loop .left - 1) = omega arith in
     operations-bad (a .base) (o .loop .left - 1) l (o .loop .at) (c .before .before .operation-end .ensures) (c .enum-told .given .1)
-    ∙ ap (λ (n : ℕ). present (operations (a .base) n (drop (o .loop .at) l))) (sym e) ∙ o .loop .inv
+    ∙ ap (λ (n : ℕ). isSome (operations (a .base) n (drop (o .loop .at) l))) (sym e) ∙ o .loop .inv
 
 loop-again : tie.Need-loop-again Inv-loop μ-loop
 loop-again c =
@@ -32,17 +32,12 @@ loop-again c =
     let l = a .list .now in
     let e : o .loop .left ≡ suc (o .loop .left - 1) = omega arith in
     operations-next (a .base) (o .loop .left - 1) l (o .loop .at) (c .before .before .before .operation-end .ensures) (c .before .end .given .1)
-    ∙ ap (λ (n : ℕ). present (operations (a .base) n (drop (o .loop .at) l))) (sym e) ∙ o .loop .inv
-
-returns-2 : tie.Need-returns-2 Inv-loop μ-loop
-returns-2 c =
-    let o = c .before in
-    let a = o .before .before .args in
-    let l = a .list .now in
-    let e : 0 ≡ o .loop .left = omega arith in
-    operations-end (a .base) l (o .loop .at) ∙ ap (λ (n : ℕ). present (operations (a .base) n (drop (o .loop .at) l))) e ∙ o .loop .inv
+    ∙ ap (λ (n : ℕ). isSome (operations (a .base) n (drop (o .loop .at) l))) (sym e) ∙ o .loop .inv
 
 pub fill-list-spec : {M : Type 1} → statement M
 fill-list-spec =
-    tie.close (tie.spec Inv-loop μ-loop (λ c. refl) (λ c κs. search needs) (λ c. search needs) (λ c. search needs) returns
-    (λ c. omega arith) (λ c. omega arith) loop-again returns-2)
+    tie.close (tie.spec Inv-loop μ-loop (λ c. refl) (λ c κs. search needs) (λ c. search needs) (λ c. search needs) returns (λ c. omega arith)
+    (λ c. omega arith) loop-again
+    (λ c. let o = c .before in let a = o .before .before .args in let l = a .list .now in
+    let e : 0 ≡ o .loop .left = omega arith in operations-end (a .base) l (o .loop .at) ∙ ap
+    (λ (n : ℕ). isSome (operations (a .base) n (drop (o .loop .at) l))) e ∙ o .loop .inv))

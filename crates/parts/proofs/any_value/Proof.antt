@@ -5,16 +5,10 @@ use borrow.Author.Needs.{needs}
 use Rattle.parts.proofs.any_value.Statement.{statement}
 use Rattle.parts.proofs.any_value.Tie as tie
 
-returns : tie.Need-returns
-returns c =
-    let a = c .before .before .before .before .before .args in
-    value-at (a .s .now) (a .at) _ (sym (c .before .end .given .1) ∙ c .before .before .before .read-value .ensures)
-
-returns-2 : tie.Need-returns-2
-returns-2 c =
-    let a = c .before .before .before .before .args in
-    value-at (a .s .now) (a .at) _ (sym (c .enum-told .given .1) ∙ c .before .before .read-value .ensures)
-
 pub any-value-spec : {M : Type 1} → statement M
 any-value-spec =
-    tie.close (tie.spec (λ c κs. search needs) (λ c. search needs) (λ c. search needs) returns returns-2)
+    tie.close (tie.spec (λ c κs. search needs) (λ c. search needs) (λ c. search needs)
+    (λ c. let a = c .before .before .before .before .before .args in
+    value-at (a .s .now) (a .at) _ (sym (c .before .end .given .1) ∙ c .before .before .before .read-value .ensures))
+    (λ c. let a = c .before .before .before .before .args in
+    value-at (a .s .now) (a .at) _ (sym (c .enum-told .given .1) ∙ c .before .before .read-value .ensures)))

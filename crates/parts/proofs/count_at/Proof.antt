@@ -8,27 +8,18 @@ use borrow.Author.Needs.{needs}
 use Rattle.parts.proofs.count_at.Statement.{statement}
 use Rattle.parts.proofs.count_at.Tie as tie
 
-returns : tie.Need-returns
-returns c =
-    let a = c .before .before .args in
-    count-at (a .s .now) (a .at) _ (header-past (a .s .now) (a .at) arrayBy (c .if1 .taken))
-
 returns-2 : tie.Need-returns-2
 returns-2 c =
     let a = c .before .before .before .before .args in
     count-at (a .s .now) (a .at) _ (array-short (a .s .now) (a .at) (omega (arith, c .before .before .if1 .left)) (omega (arith, c .if2 .taken)) (omega (arith, c .if2 .taken)))
 
-returns-3 : tie.Need-returns-3
-returns-3 c =
-    let a = c .before .before .before .before .before .before .before .before .args in
-    count-at (a .s .now) (a .at) _ (sym (c .before .n .given .1) ∙ c .before .before .before .header-at .ensures)
-
-returns-4 : tie.Need-returns-4
-returns-4 c =
-    let a = c .before .before .before .before .before .before .before .args in
-    count-at (a .s .now) (a .at) _ (sym (c .enum-told .given .1) ∙ c .before .before .header-at .ensures)
-
 pub count-at-spec : {M : Type 1} → statement M
 count-at-spec =
-    tie.close (tie.spec returns (λ c. search needs) (λ c. search needs) (λ c. search needs) (λ c. search needs) returns-2
-    (λ c κs. search needs) (λ c. search needs) (λ c. search needs) returns-3 returns-4)
+    tie.close (tie.spec (λ c. let a = c .before .before .args in
+    count-at (a .s .now) (a .at) _ (header-past (a .s .now) (a .at) arrayBy (c .if1 .taken)))
+    (λ c. search needs) (λ c. search needs) (λ c. search needs) (λ c. search needs) returns-2 (λ c κs. search needs)
+    (λ c. search needs) (λ c. search needs)
+    (λ c. let a = c .before .before .before .before .before .before .before .before .args in
+    count-at (a .s .now) (a .at) _ (sym (c .before .n .given .1) ∙ c .before .before .before .header-at .ensures))
+    (λ c. let a = c .before .before .before .before .before .before .before .args in
+    count-at (a .s .now) (a .at) _ (sym (c .enum-told .given .1) ∙ c .before .before .header-at .ensures)))

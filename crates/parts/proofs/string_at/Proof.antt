@@ -1,33 +1,26 @@
 -- By its header, and by whether its bytes have all come. Assumes nothing.
 use native.Mathlib.Omega.{arith}
-use mathlib.Core.Path.{sym, _∙_}
-use Rattle.parts.proofs.Reading as Reading
+use mathlib.Core.Path.{_≡_, sym, ap, _∙_}
+use lib.ListN.{drop}
+use borrow.Author.Tests.{le-leb, lt-leb}
+use Rattle.msgpack_scalars.specs.declared.Header.{Header}
+use Rattle.tuples.specs.Decoding.{string}
+use Rattle.parts.specs.Part.{spanBy}
+use Rattle.parts.proofs.Reading.{stringOf, string-start, string-at}
 use borrow.Author.Needs.{needs}
 use Rattle.parts.proofs.string_at.Statement.{statement}
 use Rattle.parts.proofs.string_at.Tie as tie
 
-returns : tie.Need-returns
-returns c =
-    let a = c .before .before .before .before .args in
-    Reading.string-none (a .s .now) (a .at) (sym (c .enum-told .given .1) ∙ c .before .before .header-at .ensures)
-
-sub-if1 : tie.Need-sub-if1
-sub-if1 c =
-    let a = c .before .before .before .before .before .args in
-    let h = Reading.string-start (a .s .now) (a .at) _ _ (sym (c .before .n .given .1) ∙ c .before .before .before .header-at .ensures) in
-    omega arith
-
-returns-2 : tie.Need-returns-2
-returns-2 c =
-    let a = c .before .before .before .before .before .before .args in
-    Reading.string-cut (a .s .now) (a .at) _ _ (sym (c .before .before .n .given .1) ∙ c .before .before .before .before .header-at .ensures) (c .if1 .taken)
-
-returns-3 : tie.Need-returns-3
-returns-3 c =
-    let a = c .before .before .before .before .before .before .args in
-    Reading.string-whole (a .s .now) (a .at) _ _ (sym (c .before .before .n .given .1) ∙ c .before .before .before .before .header-at .ensures) (c .if1 .left)
+-- by the header x that was read
+told : (c : tie.After-header-at) {x : Header} → c .header-at .result ≡ x
+    → (let a = c .before .before .args in stringOf (a .s .now) x ≡ spanBy (a .s .now) (string (drop (a .at) (a .s .now))))
+told c q = let a = c .before .before .args in ap (stringOf (a .s .now)) (sym q) ∙ string-at (a .s .now) (a .at) (c .header-at .ensures)
 
 pub string-at-spec : {M : Type 1} → statement M
 string-at-spec =
-    tie.close (tie.spec (λ c κs. search needs) (λ c. search needs) (λ c. search needs) returns sub-if1 returns-2 (λ c. search needs)
-    returns-3)
+    tie.close (tie.spec (λ c κs. search needs) (λ c. search needs) (λ c. search needs) (λ c. told (c .before .before) (c .enum-told .given .1))
+    (λ c. let h = c .before .before .before in let a = h .before .before .args in
+    let k = string-start (a .s .now) (a .at) (h .header-at .ensures) (c .before .n .given .1) in omega arith)
+    (λ c. rw (lt-leb _ _ (c .if1 .taken)) at (told (c .before .before .before .before) (c .before .before .n .given .1)))
+    (λ c. search needs)
+    (λ c. rw (le-leb _ _ (c .if1 .left)) at (told (c .before .before .before .before) (c .before .before .n .given .1))))

@@ -31,15 +31,11 @@ returns-3 c =
     let a = o .args in
     left-as (ap (λ (p : Bytes). edit (k .before .plan3 .given .0 .0) (k .before .plan3 .given .0 .1 .0) (p ∷ []) (a .scratch .now) (a .lengths .now) (a .n)) (p .before .bytes-of2 .ensures) ∙ step o (k .before .plan3 .given .1)) (p .put-in2 .ensures)
 
-returns-4 : tie.Need-returns-4
-returns-4 c =
-    let p = c .before .before in
-    let k = p .before .before .before in
-    left-as (step (k .before .before .before .before .before .before) (k .before .plan4 .given .1)) (p .cut-out .ensures)
-
 pub perform-spec : {M : Type 1} → statement M
 perform-spec =
     tie.close (tie.spec (λ c. search needs) (λ c. search needs) (λ c κs. search needs) (λ c κs. search needs) (λ c. search needs)
     (λ c κs. search needs) (λ c κs. search needs) (λ c. search needs) (λ c κs. search needs)
-    (λ c. stopped (step (c .before .before .before .before .before .before) (c .before .plan .given .1)))
-    (λ c. search needs) returns-2 (λ c. search needs) returns-3 (λ c. search needs) returns-4)
+    (λ c. stopped (step (c .before .before .before .before .before .before) (c .before .plan .given .1))) (λ c. search needs)
+    returns-2 (λ c. search needs) returns-3 (λ c. search needs)
+    (λ c. let p = c .before .before in let k = p .before .before .before in
+    left-as (step (k .before .before .before .before .before .before) (k .before .plan4 .given .1)) (p .cut-out .ensures)))

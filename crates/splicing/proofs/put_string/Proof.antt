@@ -7,11 +7,6 @@ use borrow.Author.Needs.{needs}
 use Rattle.splicing.proofs.put_string.Statement.{statement}
 use Rattle.splicing.proofs.put_string.Tie as tie
 
-returns : tie.Need-returns
-returns c =
-    let a = c .before .before .before .before .before .before .args in
-    Strings.put-none (a .front .now) (a .middle .now) (a .back .now) (a .work .now) (sym (c .before .string-fits .ensures) ∙ not-true _ (c .if1 .taken))
-
 add-length-2 : tie.Need-add-length-2
 add-length-2 c =
     let a = c .before .before .before .before .before .before .args in
@@ -32,5 +27,8 @@ returns-2 c =
 
 pub put-string-spec : {M : Type 1} → statement M
 put-string-spec =
-    tie.close (tie.spec (λ c κs. search needs) returns (λ c. search needs) add-length-2 cast-write-string-header (λ c κs. search needs)
-    (λ c κs. search needs) (λ c κs. search needs) (λ c κs. search needs) (λ c. search needs) returns-2)
+    tie.close (tie.spec (λ c κs. search needs)
+    (λ c. let a = c .before .before .before .before .before .before .args in Strings.put-none (a .front .now) (a .middle .now)
+    (a .back .now) (a .work .now) (sym (c .before .string-fits .ensures) ∙ not-true _ (c .if1 .taken)))
+    (λ c. search needs) add-length-2 cast-write-string-header (λ c κs. search needs) (λ c κs. search needs) (λ c κs. search needs)
+    (λ c κs. search needs) (λ c. search needs) returns-2)

@@ -1,7 +1,10 @@
 -- The string before the position, the argument, and the string after what goes. Assumes nothing.
 use native.Mathlib.Omega.{arith}
-use mathlib.Core.Path.{refl, subst}
-use Rattle.parts.specs.Part.{InOrder}
+use mathlib.Core.Path.{refl, sym, _∙_}
+use Prim.Native.Nat.{_≤_}
+use lib.ListN.{length}
+use Rattle.tuples.specs.Decoding.{string}
+use Rattle.parts.proofs.Leaving.{span-order}
 use Rattle.splicing.proofs.Strings as Strings
 use borrow.Author.Needs.{needs}
 use Rattle.splicing.proofs.splice_field.Statement.{statement}
@@ -12,20 +15,9 @@ returns c =
     let a = c .before .before .before .before .before .before .args in
     rw (← (Strings.splice-unsuited (a .position) (a .count) (a .argument .now) (a .field .now) (c .before .before .string-at .ensures) (c .enum-told .given .1))) (refl, refl)
 
-sub-s : tie.Need-sub-s
-sub-s c =
-    let s = subst (InOrder (c .before .before .before .before .before .before .before .args .field .now)) (c .before .start .given .1) (c .before .before .before .string-at .ensures .1) in
-    omega arith
-
-part-s-start : tie.Need-part-s-start
-part-s-start c =
-    let s = subst (InOrder (c .before .before .before .before .before .before .before .args .field .now)) (c .before .start .given .1) (c .before .before .before .string-at .ensures .1) in
-    omega arith
-
-part-s-end : tie.Need-part-s-end
-part-s-end c =
-    let s = subst (InOrder (c .before .before .before .before .before .before .before .args .field .now)) (c .before .start .given .1) (c .before .before .before .string-at .ensures .1) in
-    omega arith
+-- its places are in order
+order : (k : tie.After-known-told) → (let x = k .before .start .given .0 in (x .0 ≤ x .1 .0) × (x .1 .0 ≤ length (k .before .before .before .before .before .before .before .args .field .now)))
+order k = let s = k .before .before .before .before .before .before .before .args .field .now in span-order s (string s) (sym (k .before .start .given .1) ∙ k .before .before .before .string-at .ensures)
 
 returns-2 : tie.Need-returns-2
 returns-2 c =
@@ -35,6 +27,7 @@ returns-2 c =
 
 pub splice-field-spec : {M : Type 1} → statement M
 splice-field-spec =
-    tie.close (tie.spec (λ c κs. search needs) (λ c. search needs) (λ c. search needs) returns sub-s part-s-start part-s-end
+    tie.close (tie.spec (λ c κs. search needs) (λ c. search needs) (λ c. search needs) returns
+    (λ c. omega (arith, order c .0)) (λ c. omega (arith, order c .0)) (λ c. omega (arith, order c .1))
     (λ c κs. search needs) (λ c κs. search needs) (λ c κs. search needs) (λ c κs. search needs) (λ c. search needs)
     returns-2)

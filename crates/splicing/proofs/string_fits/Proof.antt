@@ -8,29 +8,16 @@ use borrow.Author.Needs.{needs}
 use Rattle.splicing.proofs.string_fits.Statement.{statement}
 use Rattle.splicing.proofs.string_fits.Tie as tie
 
-returns : tie.Need-returns
-returns c =
-    let a = c .before .before .before .before .args in
-    Strings.too-long (a .front .now) (a .middle .now) (a .back .now) (a .room) (omega arith)
-
-returns-2 : tie.Need-returns-2
-returns-2 c =
-    let a = c .before .before .before .before .before .args in
-    Strings.too-long (a .front .now) (a .middle .now) (a .back .now) (a .room) (c .if2 .taken)
-
-add-all : tie.Need-add-all
-add-all c =
-    let e = c .string-header-length .ensures in
-    let a = c .before .before .before .before .before .before .args in
-    let l = string-long (length (a .front .now) + (length (a .middle .now) + length (a .back .now))) .1 in
-    omega arith
-
-returns-3 : tie.Need-returns-3
-returns-3 c =
-    let a = c .before .before .before .before .before .before .args in
-    Strings.measured (a .front .now) (a .middle .now) (a .back .now) (a .room) (c .string-header-length .ensures)
-
 pub string-fits-spec : {M : Type 1} → statement M
 string-fits-spec =
-    tie.close (tie.spec (λ c. search needs) returns (λ c. search needs) returns-2 (λ c. search needs) (λ c κs. search needs) add-all
-    returns-3)
+    tie.close (tie.spec (λ c. search needs)
+    (λ c. let a = c .before .before .before .before .args in
+    Strings.too-long (a .front .now) (a .middle .now) (a .back .now) (a .room) (omega arith))
+    (λ c. search needs)
+    (λ c. let a = c .before .before .before .before .before .args in
+    Strings.too-long (a .front .now) (a .middle .now) (a .back .now) (a .room) (c .if2 .taken))
+    (λ c. search needs) (λ c κs. search needs)
+    (λ c. let e = c .string-header-length .ensures in let a = c .before .before .before .before .before .before .args in
+    let l = string-long (length (a .front .now) + (length (a .middle .now) + length (a .back .now))) .1 in omega arith)
+    (λ c. let a = c .before .before .before .before .before .before .args in
+    Strings.measured (a .front .now) (a .middle .now) (a .back .now) (a .room) (c .string-header-length .ensures)))

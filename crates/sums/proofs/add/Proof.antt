@@ -9,20 +9,14 @@ use Rattle.sums.proofs.add.Tie as tie
 returns : tie.Need-returns
 returns c = Signs.below-out _ (omega arith) ∙ Signs.add-down (c .before .before .before .before .before .z2 .given .1) (c .before .before .v4 .given .1)
 
-returns-2 : tie.Need-returns-2
-returns-2 c = c .raised .ensures ∙ Signs.add-up (c .before .before .before .before .before .z .given .1) (c .before .before .v .given .1)
-
-returns-3 : tie.Need-returns-3
-returns-3 c = c .mixed .ensures ∙ Signs.add-mixed (c .before .before .before .before .before .z .given .1) (c .before .before .v2 .given .1)
-
-returns-4 : tie.Need-returns-4
-returns-4 c = c .mixed2 .ensures ∙ Signs.add-other (c .before .before .before .before .before .z2 .given .1) (c .before .before .v3 .given .1)
-
 returns-5 : tie.Need-returns-5
 returns-5 c = c .lowered .ensures ∙ Signs.add-down (c .before .before .before .before .before .before .z2 .given .1) (c .before .before .before .v4 .given .1)
 
 pub add-spec : {M : Type 1} → statement M
 add-spec =
-    tie.close (tie.spec (λ c. search needs) (λ c. search needs) (λ c κs. search needs) (λ c. search needs) (λ c κs. search needs)
-    (λ c. search needs) (λ c. search needs) (λ c κs. search needs) (λ c. search needs) returns (λ c. search needs)
-    (λ c κs. search needs) returns-2 returns-3 returns-4 returns-5)
+    tie.close (tie.spec (λ c. search needs) (λ c. search needs) (λ c κs. search needs) (λ c. search needs) (λ c κs. search needs) (λ c. search needs)
+    (λ c. search needs) (λ c κs. search needs) (λ c. search needs) returns (λ c. search needs) (λ c κs. search needs)
+    (λ c. c .raised .ensures ∙ Signs.add-up (c .before .before .before .before .before .z .given .1) (c .before .before .v .given .1))
+    (λ c. c .mixed .ensures ∙ Signs.add-mixed (c .before .before .before .before .before .z .given .1) (c .before .before .v2 .given .1))
+    (λ c. c .mixed2 .ensures ∙ Signs.add-other (c .before .before .before .before .before .z2 .given .1) (c .before .before .v3 .given .1))
+    returns-5)

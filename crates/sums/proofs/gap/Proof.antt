@@ -7,15 +7,10 @@ use borrow.Author.Needs.{needs}
 use Rattle.sums.proofs.gap.Statement.{statement}
 use Rattle.sums.proofs.gap.Tie as tie
 
-returns : tie.Need-returns
-returns c =
-    let a = c .before .args in
-    Signs.from-is _ (omega arith) ∙ ap inRange (sym (Signs.gap-up (a .x) (a .y) (c .if1 .taken)))
-
-returns-2 : tie.Need-returns-2
-returns-2 c =
-    let a = c .before .before .args in
-    c .below .ensures ∙ ap inRange (sym (Signs.gap-down (a .x) (a .y) (c .before .if1 .left)))
-
 pub gap-spec : {M : Type 1} → statement M
-gap-spec = tie.close (tie.spec returns (λ c. search needs) (λ c. search needs) (λ c κs. search needs) returns-2)
+gap-spec =
+    tie.close (tie.spec (λ c. let a = c .before .args in
+    Signs.from-is _ (omega arith) ∙ ap inRange (sym (Signs.gap-up (a .x) (a .y) (c .if1 .taken))))
+    (λ c. search needs) (λ c. search needs) (λ c κs. search needs)
+    (λ c. let a = c .before .before .args in
+    c .below .ensures ∙ ap inRange (sym (Signs.gap-down (a .x) (a .y) (c .before .if1 .left)))))

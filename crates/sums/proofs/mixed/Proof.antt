@@ -7,15 +7,11 @@ use borrow.Author.Needs.{needs}
 use Rattle.sums.proofs.mixed.Statement.{statement}
 use Rattle.sums.proofs.mixed.Tie as tie
 
-returns : tie.Need-returns
-returns c =
-    let a = c .before .args in
-    Signs.from-is _ (omega arith) ∙ ap inRange (sym (Signs.mixed-up (a .x) (a .m) (c .if1 .taken)))
-
-returns-2 : tie.Need-returns-2
-returns-2 c =
-    let a = c .before .before .args in
-    c .below .ensures ∙ ap inRange (sym (Signs.mixed-down (a .x) (a .m) (c .before .if1 .left)))
-
 pub mixed-spec : {M : Type 1} → statement M
-mixed-spec = tie.close (tie.spec (λ c. search needs) (λ c. search needs) returns (λ c κs. search needs) returns-2)
+mixed-spec =
+    tie.close (tie.spec (λ c. search needs) (λ c. search needs)
+    (λ c. let a = c .before .args in
+    Signs.from-is _ (omega arith) ∙ ap inRange (sym (Signs.mixed-up (a .x) (a .m) (c .if1 .taken))))
+    (λ c κs. search needs)
+    (λ c. let a = c .before .before .args in
+    c .below .ensures ∙ ap inRange (sym (Signs.mixed-down (a .x) (a .m) (c .before .if1 .left)))))

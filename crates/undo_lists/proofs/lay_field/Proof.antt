@@ -9,13 +9,6 @@ use borrow.Author.Needs.{needs}
 use Rattle.undo_lists.proofs.lay_field.Statement.{statement}
 use Rattle.undo_lists.proofs.lay_field.Tie as tie
 
-returns : tie.Need-returns
-returns c =
-    let a = c .before .before .before .before .args in
-    let x = fieldBytes (a .scratch .now) (a .lengths .now) (a .at) in
-    let e = operation-length (a .mark) (a .f) x in
-    no-room (operationBytes (a .mark) (a .f) x) (a .bytes) (a .undo .now) (omega arith)
-
 returns-2 : tie.Need-returns-2
 returns-2 c =
     let l = c .before .before in
@@ -26,5 +19,8 @@ returns-2 c =
 
 pub lay-field-spec : {M : Type 1} → statement M
 lay-field-spec =
-    tie.close (tie.spec (λ c. search needs) returns (λ c κs. search needs) (λ c κs. search needs) (λ c κs. search needs)
-    (λ c. search needs) returns-2)
+    tie.close (tie.spec (λ c. search needs)
+    (λ c. let a = c .before .before .before .before .args in let x = fieldBytes (a .scratch .now) (a .lengths .now) (a .at) in
+    let e = operation-length (a .mark) (a .f) x in
+    no-room (operationBytes (a .mark) (a .f) x) (a .bytes) (a .undo .now) (omega arith))
+    (λ c κs. search needs) (λ c κs. search needs) (λ c κs. search needs) (λ c. search needs) returns-2)

@@ -28,13 +28,9 @@ loop-again c =
       removed-turn (a .scratch .now) (a .lengths .now) (a .f) (l .loop .i) (a .bytes) (a .undo .now) (l .loop .inv .1) (l .loop .inv .2) (k .lay-field .ensures),
     )
 
-returns : tie.Need-returns Inv-loop μ-loop
-returns c =
-    let l = c .before in
-    let e : l .loop .i ≡ l .before .before .before .before .args .m = omega arith in
-    rw (← e) (l .loop .inv .2)
-
 pub lay-removed-spec : {M : Type 1} → statement M
 lay-removed-spec =
-    tie.close (tie.spec Inv-loop μ-loop loop-holds (λ c. omega arith) (λ c κs. omega arith) (λ c. omega arith) (λ c. omega arith)
-    loop-again (λ c. omega arith) returns)
+    tie.close (tie.spec Inv-loop μ-loop loop-holds (λ c. omega arith) (λ c κs. omega arith) (λ c. omega arith) (λ c. omega arith) loop-again
+    (λ c. omega arith)
+    (λ c. let l = c .before in let e : l .loop .i ≡ l .before .before .before .before .args .m = omega arith in
+    rw (← e) (l .loop .inv .2)))

@@ -16,24 +16,16 @@ header o = array-long (o .args .laid)
 returns : tie.Need-returns
 returns c = let a = c .before .before .before .before .args in seen-list (a .out .now) (list-many (a .undo .now) (a .laid) (a .bytes) (c .before .if1 .taken)) (seen-refusal LongUndo 0 (a .out .now) (c .refused .ensures))
 
-returns-2 : tie.Need-returns-2
-returns-2 c =
-    let o = c .before .before .before .before .before .before in
-    let a = o .args in
-    let h = header o in
-    seen-list (a .out .now) (list-long (a .undo .now) (a .laid) (a .bytes) (omega arith) (omega arith)) (seen-refusal LongUndo 0 (a .out .now) (c .refused2 .ensures))
-
-returns-3 : tie.Need-returns-3
-returns-3 c =
-    let d = c .before .before in
-    let o = c .before .before .before .before .before .before .before .before .before .before in
-    let a = o .args in
-    let h = header o in
-    seen-list (a .out .now) (list-is (a .undo .now) (a .laid) (a .bytes) (omega arith) (omega arith)) (d .deliver .ensures)
-
 pub finish-spec : {M : Type 1} → statement M
 finish-spec =
     tie.close (tie.spec (λ c κs. search needs) returns (λ c. search needs) (λ c κs. search needs)
-    (λ c. let h = header (c .before .before .before .before) in omega arith) (λ c κs. search needs) returns-2
-    (λ c. search needs) (λ c. search needs) (λ c. search needs) (λ c. search needs) (λ c. search needs)
-    (λ c κs. search needs) (λ c. search needs) returns-3)
+    (λ c. let h = header (c .before .before .before .before) in omega arith) (λ c κs. search needs)
+    (λ c. let o = c .before .before .before .before .before .before in let a = o .args in let h = header o in seen-list
+    (a .out .now) (list-long (a .undo .now) (a .laid) (a .bytes) (omega arith) (omega arith))
+    (seen-refusal LongUndo 0 (a .out .now) (c .refused2 .ensures)))
+    (λ c. search needs) (λ c. search needs) (λ c. search needs) (λ c. search needs) (λ c. search needs) (λ c κs. search needs)
+    (λ c. search needs)
+    (λ c. let d = c .before .before in
+    let o = c .before .before .before .before .before .before .before .before .before .before in let a = o .args in
+    let h = header o in
+    seen-list (a .out .now) (list-is (a .undo .now) (a .laid) (a .bytes) (omega arith) (omega arith)) (d .deliver .ensures)))

@@ -13,14 +13,10 @@ returns-3 c =
     let n = rw (c .before .before .before .before .enum-told .given .1) at (u .undo-in .ensures) in
     c .before .before .undo-long3 .ensures ∙ ap (undoCall (a .tuple .now) (a .list .now) (a .index-base)) (n .0)
 
-returns-4 : tie.Need-returns-4
-returns-4 c = rw (c .before .answer .given .1) at (c .before .before .before .before .before .before .before .before .undo-in .ensures)
-
 pub undo-spec : {M : Type 1} → statement M
 undo-spec =
     tie.close (tie.spec (λ c κs. search needs) (λ c. search needs) (λ c. c .before .before .undo-long .ensures) (λ c κs. search needs)
-    (λ c. search needs) (λ c. c .before .before .undo-long2 .ensures) (λ c. search needs) (λ c. search needs)
-    (λ c. search needs)
+    (λ c. search needs) (λ c. c .before .before .undo-long2 .ensures) (λ c. search needs) (λ c. search needs) (λ c. search needs)
     (λ c κs. let i = c .before .before .before .before .before in (λ _. omega (arith, i .if1 .left), omega arith))
     (λ c. search needs) (λ c. search needs) (λ c κs. search needs) (λ c. search needs) returns-3 (λ c. search needs)
-    returns-4)
+    (λ c. rw (c .before .answer .given .1) at (c .before .before .before .before .before .before .before .before .undo-in .ensures)))

@@ -23,12 +23,6 @@ returns c =
     let r = k .before .before .before .before .before .before .before .before .before in
     (refl, λ _ m. t .undone ∙ limited-past (r .carry-out .last .1 .1 .1 .1 .1 .1 .0) (z .bytes) (z .laid) (t .us) (t .piled) (t .laid) (omega arith) (omega (arith, m, r .carry-out .kept .1 .1 .1 .1 .1 .1 .0)))
 
-returns-2 : tie.Need-returns-2
-returns-2 c =
-    let r = c .before .before .before .before .before .before .before .before in
-    let n = rw (c .enum-told .given .1) at (r .carry-out .ensures) in
-    (refl, λ m _. absurd (omega (arith, n, m, r .carry-out .kept .1 .1 .1 .0)))
-
 returns-3 : tie.Need-returns-3
 returns-3 c =
     let k = c .before in
@@ -50,6 +44,9 @@ pub undo-in-spec : {M : Type 1} → statement M
 undo-in-spec =
     tie.close (tie.spec (λ c κs. search needs) (λ c. search needs) (λ c. search needs) (λ c. let h = refusing c in omega (arith, h .0))
     (λ c κs. search needs) (λ c. search needs) (λ c. search needs) (λ c. search needs) (λ c. search needs) returns
-    (λ c κs. search needs) (λ c. search needs) (λ c. search needs) (λ c. search needs) returns-2 (λ c. search needs)
-    (λ c. search needs) (λ c. search needs) returns-3 (λ c. search needs) (λ c. search needs) (λ c. search needs)
-    (λ c. search needs) returns-4)
+    (λ c κs. search needs) (λ c. search needs) (λ c. search needs) (λ c. search needs)
+    (λ c. let r = c .before .before .before .before .before .before .before .before in
+    let n = rw (c .enum-told .given .1) at (r .carry-out .ensures) in
+    (refl, λ m _. absurd (omega (arith, n, m, r .carry-out .kept .1 .1 .1 .0))))
+    (λ c. search needs) (λ c. search needs) (λ c. search needs) returns-3 (λ c. search needs) (λ c. search needs)
+    (λ c. search needs) (λ c. search needs) returns-4)

@@ -16,10 +16,8 @@ returns c =
     let n = rw (c .before .enum-told .given .1) at (u .undo-in .ensures) in
     seen-undo (a .tuple .now) (a .list .now) (a .index-base) (a .out .now) (n .1 (omega arith) refl) (ap (seen (c .refused .result)) (n .0) ∙ seen-refusal LongUndo 0 (a .out .now) (c .refused .ensures))
 
-returns-2 : tie.Need-returns-2
-returns-2 c = rw (c .before .answer .given .1) at (c .before .before .before .before .before .before .before .before .undo-in .ensures)
-
 pub undo-long-spec : {M : Type 1} → statement M
 undo-long-spec =
-    tie.close (tie.spec (λ c. search needs) (λ c. search needs) (λ c. search needs) (λ c κs. (λ h. omega (arith, h), omega arith))
-    (λ c. search needs) (λ c. search needs) (λ c κs. search needs) (λ c. search needs) returns (λ c. search needs) returns-2)
+    tie.close (tie.spec (λ c. search needs) (λ c. search needs) (λ c. search needs) (λ c κs. (λ h. omega (arith, h), omega arith)) (λ c. search needs)
+    (λ c. search needs) (λ c κs. search needs) (λ c. search needs) returns (λ c. search needs)
+    (λ c. rw (c .before .answer .given .1) at (c .before .before .before .before .before .before .before .before .undo-in .ensures)))

@@ -16,12 +16,6 @@ refusing k = rw (k .before .refusal .given .1) at (k .before .before .before .be
 carried : (k : tie.After-known-told2) → (let r = k .before .before .before .before .before .before .before .before in let a = r .before .before .before .before .before .before .before .before .before .before .args in let t = r .carry-out .last .1 .1 .1 in Carried (k .before .stage .given .0 .0) (t .0) (t .1 .0) (t .1 .1 .1 .0) (a .tuple .now) (a .list .now) (a .index-base))
 carried k = rw (k .before .stage .given .1) at (k .before .before .before .before .before .before .before .before .carry-out .ensures)
 
-returns : tie.Need-returns
-returns c =
-    let r = c .before .before .before .before .before .before .before in
-    let n = rw (c .enum-told .given .1) at (r .carry-out .ensures) in
-    (refl, omega (arith, n, r .carry-out .kept .1 .1 .1 .0))
-
 returns-2 : tie.Need-returns-2
 returns-2 c =
     let k = c .before in
@@ -46,5 +40,7 @@ update-in-spec =
     (λ c. let t = carried (c .before .before) in omega (arith, t .fit .few))
     (λ c. rw (c .end-of .ensures) (end-inside (carried (c .before .before) .fit)))
     (λ c. sym (length-take-le _ _ (rw (c .before .end-of .ensures) (end-inside (carried (c .before .before .before) .fit)))))
-    (λ c κs. search needs) (λ c. search needs) (λ c. search needs) returns (λ c. search needs) (λ c. search needs) returns-2
-    (λ c. search needs) (λ c. search needs) (λ c. search needs) returns-3)
+    (λ c κs. search needs) (λ c. search needs) (λ c. search needs)
+    (λ c. let r = c .before .before .before .before .before .before .before in
+    let n = rw (c .enum-told .given .1) at (r .carry-out .ensures) in (refl, omega (arith, n, r .carry-out .kept .1 .1 .1 .0)))
+    (λ c. search needs) (λ c. search needs) returns-2 (λ c. search needs) (λ c. search needs) (λ c. search needs) returns-3)

@@ -5,7 +5,7 @@ use native.Mathlib.Omega.{arith}
 use Rattle.tuples.specs.Tuple.{fieldsOf}
 use Rattle.engine.specs.Held.{fieldsIn, Fit}
 use Rattle.operations.proofs.Listing.{Judged, good, bad}
-use Rattle.updates.proofs.Calls.{told, not-loaded, loaded, begin, bad-tuple, bad-list, not-filled, carries}
+use Rattle.updates.proofs.Calls.{fills-at-end, not-loaded, loaded, begin, bad-tuple, bad-list, not-filled, carries}
 use borrow.Author.Needs.{needs}
 use Rattle.updates.proofs.carrying.carry_out.Statement.{statement}
 use Rattle.updates.proofs.carrying.carry_out.Tie as tie
@@ -23,13 +23,6 @@ due k =
     let j = k .before .before .before in
     let a = j .before .before .before .before .before .before .before .before .before .before .before .before .before .before .args in
     good (a .base) (a .list .now) (j .front-of .ensures) (k .before .count .given .1)
-
-returns : tie.Need-returns
-returns c =
-    let l = c .before .before .before .before in
-    let o = l .before .before .before .before .before .before .before .before in
-    let a = o .args in
-    bad-tuple (a .tuple .now) (a .list .now) (a .base) (not-loaded (a .tuple .now) (o .pre .0) (l .load .ensures) (c .enum-told .given .1))
 
 returns-2 : tie.Need-returns-2
 returns-2 c =
@@ -62,8 +55,11 @@ returns-4 c =
 
 pub carry-out-spec : {M : Type 1} → statement M
 carry-out-spec =
-    tie.close (tie.spec (λ c κs. search needs) (λ c. search needs) (λ c. search needs) (λ c. search needs) returns
+    tie.close (tie.spec (λ c κs. search needs) (λ c. search needs) (λ c. search needs) (λ c. search needs)
+    (λ c. let l = c .before .before .before .before in
+    let o = l .before .before .before .before .before .before .before .before in let a = o .args in bad-tuple (a .tuple .now)
+    (a .list .now) (a .base) (not-loaded (a .tuple .now) (o .pre .0) (l .load .ensures) (c .enum-told .given .1)))
     (λ c κs. search needs) (λ c. search needs) (λ c. search needs) (λ c. search needs) returns-2 run-requires
-    (λ c κs. let r = c .before .before .before .before .before .before in told _ _ _ _ _ _ _ _ (r .run .result) (r .run .ensures))
+    (λ c κs. let r = c .before .before .before .before .before .before in fills-at-end _ _ _ _ _ _ _ _ (r .run .result) (r .run .ensures))
     (λ c. search needs) (λ c. search needs) (λ c. search needs) returns-3 (λ c. search needs) (λ c. search needs)
     (λ c. search needs) returns-4)

@@ -25,12 +25,6 @@ loop-holds c =
     let a = o .args in
     (omega arith, refl, omega arith, o .pre .0, begin (a .base) (a .count) (a .list .now) (a .scratch .now) (a .lengths .now) (a .undo .now) (a .n) (a .start), refl, refl)
 
-step-requires : tie.Need-step-requires Inv-loop μ-loop
-step-requires c κs =
-    let l = c .before .before .before .before .before in
-    let v = l .loop .inv in
-    ((v .3, omega (arith, v .5, v .6, l .before .before .before .before .before .pre .1)), omega (arith, v .2))
-
 returns : tie.Need-returns Inv-loop μ-loop
 returns c =
     let k = c .before .before .before in
@@ -54,8 +48,11 @@ loop-again c =
 
 pub run-spec : {M : Type 1} → statement M
 run-spec =
-    tie.close (tie.spec Inv-loop μ-loop loop-holds step-requires (λ c. search needs) (λ c κs. search needs) (λ c. search needs)
-    (λ c. search needs) (λ c. search needs) returns (λ c. search needs) (λ c. search needs) (λ c. search needs)
+    tie.close (tie.spec Inv-loop μ-loop loop-holds
+    (λ c κs. let l = c .before .before .before .before .before in let v = l .loop .inv in
+    ((v .3, omega (arith, v .5, v .6, l .before .before .before .before .before .pre .1)), omega (arith, v .2)))
+    (λ c. search needs) (λ c κs. search needs) (λ c. search needs) (λ c. search needs) (λ c. search needs) returns
+    (λ c. search needs) (λ c. search needs) (λ c. search needs)
     (λ c. unsure (c .before .before .before .refusal .given .0 .0) _ (sym (c .before .certain .ensures) ∙ c .if1 .left))
     (λ c. search needs) (λ c. search needs) (λ c. search needs) loop-again (λ c. search needs) (λ c. search needs)
     (λ c. search needs) (λ c. let l = c .before in run-through (l .loop .inv .4) (omega arith) (l .loop .inv .3)))

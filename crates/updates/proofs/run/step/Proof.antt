@@ -1,7 +1,7 @@
 -- What was prepared is laid back and performed. Assumes nothing.
 use mathlib.Core.Path.{refl}
 use native.Mathlib.Omega.{arith}
-use Rattle.updates.proofs.Stepping.{step-stops, step-goes, light}
+use Rattle.updates.proofs.Stepping.{step-stops, step-goes, few}
 use borrow.Author.Needs.{needs}
 use Rattle.updates.proofs.run.step.Statement.{statement}
 use Rattle.updates.proofs.run.step.Tie as tie
@@ -12,7 +12,7 @@ add-t34 c =
     let y = n .before .before .before .before .before in
     let p = y .before .before .before .before .before .before .before .before .before .before .before .before .before in
     let o = p .before .before .before .before .before .before .before .before .before in
-    let h = light (o .pre .0 .0) (o .args .list .now) (p .prepare .ensures) (y .perform .ensures) (n .before .n .given .1) in
+    let h = few (o .pre .0 .0) (o .args .list .now) (p .prepare .ensures) (y .perform .ensures) (n .before .n .given .1) in
     omega arith
 
 returns : tie.Need-returns
@@ -29,7 +29,7 @@ returns-2 c =
     let i = y .before .before .before .before .before .before in
     let p = i .before .before .before .before .before .before .before in
     let o = p .before .before .before .before .before .before .before .before .before in
-    step-goes (o .pre .0 .0) (o .args .list .now) (p .prepare .ensures) (y .perform .ensures) (n .before .n .given .1) refl refl (rw (c .before .weight .ensures)) (i .lay-inverse .ensures .0) (i .lay-inverse .ensures .1)
+    step-goes (o .pre .0 .0) (o .args .list .now) (p .prepare .ensures) (y .perform .ensures) (n .before .n .given .1) refl refl (rw (c .before .inverse-count .ensures)) (i .lay-inverse .ensures .0) (i .lay-inverse .ensures .1)
 
 pub step-spec : {M : Type 1} → statement M
 step-spec =

@@ -1,0 +1,2 @@
+-- The laws of an operation's numbers, each once. Assumes nothing.
+pub mod Numbers

@@ -1,0 +1,2 @@
+-- A field by its number.
+pub mod FieldNumber
