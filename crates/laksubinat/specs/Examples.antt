@@ -5,7 +5,7 @@ use mathlib.Core.Path.{_≡_, refl}
 use lib.ListN.{replicate}
 use Rattle.msgpack_first_bytes.specs.Bytes.{Bytes}
 use Rattle.msgpack_first_bytes.specs.FirstByte.{formOf, sameKind}
-use Rattle.msgpack_first_bytes.specs.Number.{number}
+use Rattle.msgpack_numbers.specs.Number.{number}
 use Rattle.msgpack_values.specs.Value.{value, one, container, tooDeep, byForm, items, sized, payload}
 use Rattle.msgpack_scalars.specs.Integer.{dueIn, due, naturalOf, unsignedBy, unsigned, twosComplement, signedOf, signedBy, signed, adding, integer}
 use Rattle.msgpack_meanings.specs.Meaning.{ofInteger, ofFloat32, ofFloat64, scalarMeaning, meaning, aloneBy, alone}

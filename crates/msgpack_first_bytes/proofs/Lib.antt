@@ -1,5 +1,4 @@
--- A case that cannot be and a choice by a test; a rule over a range of numbers by one computed test; forms as lists of numbers; big-endian numbers.
+-- A case that cannot be and a choice by a test; a rule over a range of numbers by one computed test; forms as lists of numbers.
 pub mod Logic
 pub mod Range
 pub mod Forms
-pub mod Big

@@ -1,4 +1,3 @@
--- What the first byte of a MessagePack value says, numbers of several bytes, and two words that every layer's definitions use.
+-- What the first byte of a MessagePack value says, and two words that every layer's definitions use.
 pub mod Bytes
 pub mod FirstByte
-pub mod Number

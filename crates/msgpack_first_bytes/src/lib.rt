@@ -1,8 +1,7 @@
-// The first byte of a MessagePack value, by one decision over ranges; numbers of several bytes.
+// The first byte of a MessagePack value: one decision over ranges.
 ghost use mathlib.Core.Path.{_≡_};
-ghost use Prim.Native.Nat.{_+_, _*_, _^_, _<_, _≤_};
+ghost use Prim.Native.Nat.{_^_, _<_, _≤_};
 ghost use Rattle.msgpack_first_bytes.specs.FirstByte.{formOf, kindNo, sameKind};
-ghost use Rattle.msgpack_first_bytes.specs.Number.{numberAt, Below};
 
 // What a value is that holds no other value.
 pub enum Kind {
@@ -24,11 +23,6 @@ pub enum Form {
     Scalar(Kind, usize, usize),
     Array(usize, usize),
     Map(usize, usize),
-}
-
-pub enum Number {
-    Is(u64),
-    Missing,
 }
 
 fn power_of_two(k: u8) -> usize
@@ -90,34 +84,4 @@ pub fn same_kind(a: Kind, b: Kind) -> bool
     ensures { λ r. ⌜ r ≡ sameKind a b ⌝ }
 {
     kind_no(a) == kind_no(b)
-}
-
-// One byte more at the low end, without a multiplication.
-fn appended(n: u64, b: u8) -> u64
-    requires { ⌜ n < 2 ^ 56 ⌝ }
-    ensures { λ r. ⌜ r ≡ n * 256 + b ⌝ }
-{
-    (n << 8) + b as u64
-}
-
-// The number of the `width` bytes from `at`.
-pub fn number_at(s: &[u8], at: usize, width: usize) -> Number
-    ensures { λ r. ⌜ (r ≡ numberAt width at (now (s .entry))) × Below (2 ^ (8 * width)) r ⌝ }
-{
-    if 8 < width {
-        return Number::Missing;
-    }
-    if s.len() < width {
-        return Number::Missing;
-    }
-    if s.len() - width < at {
-        return Number::Missing;
-    }
-    let mut n: u64 = 0;
-    let mut i: usize = 0;
-    while i < width {
-        n = appended(n, s[at + i]);
-        i += 1;
-    }
-    Number::Is(n)
 }

@@ -9,10 +9,10 @@ use Rattle.msgpack_first_bytes.specs.declared.Kind.{Kind}
 use Rattle.msgpack_first_bytes.specs.declared.Kind.the-variants.{Nil, Boolean, Unsigned, Signed, Float32, Float64, String, Bin, Ext}
 use Rattle.msgpack_first_bytes.specs.declared.Form.{Form}
 use Rattle.msgpack_first_bytes.specs.declared.Form.the-variants.{Unused, Scalar, Array, Map}
-use Rattle.msgpack_first_bytes.specs.Number.{numberAt}
+use Rattle.msgpack_numbers.specs.Number.{numberAt}
 use Rattle.msgpack_values.specs.Value.{value}
-use Rattle.msgpack_first_bytes.specs.declared.Number.{Number}
-use Rattle.msgpack_first_bytes.specs.declared.Number.the-variants.{Is, Missing}
+use Rattle.msgpack_numbers.specs.declared.Number.{Number}
+use Rattle.msgpack_numbers.specs.declared.Number.the-variants.{Is, Missing}
 use Rattle.msgpack_values.specs.declared.Read.{Read}
 use Rattle.msgpack_values.specs.declared.Read.the-variants.{Whole, Broken}
 use Rattle.msgpack_scalars.specs.Integer.{integer}

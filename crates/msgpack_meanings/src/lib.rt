@@ -1,7 +1,7 @@
 // What a value means, and a value read alone.
 use msgpack_first_bytes::Form;
 use msgpack_first_bytes::Kind;
-use msgpack_first_bytes::Number;
+use msgpack_numbers::Number;
 use msgpack_scalars::Int;
 use msgpack_scalars::Integer;
 use msgpack_values::Read;
@@ -10,7 +10,7 @@ ghost use Prim.Native.Nat.{_+_, _≤_};
 ghost use lib.Ieee.{binary32, binary64, ofBits};
 ghost use lib.ListN.{length, getD};
 ghost use Rattle.msgpack_first_bytes.specs.FirstByte.{formOf};
-ghost use Rattle.msgpack_first_bytes.specs.Number.{numberAt};
+ghost use Rattle.msgpack_numbers.specs.Number.{numberAt};
 ghost use Rattle.msgpack_values.specs.Value.{value};
 ghost use Rattle.msgpack_scalars.specs.Integer.{integer};
 ghost use Rattle.msgpack_meanings.specs.Meaning.{ofInteger, ofFloat32, ofFloat64, typeBytes, scalarMeaning, meaning, alone};
@@ -62,7 +62,7 @@ fn float64(bits: u64) -> Meaning
 fn float32_meaning(s: &[u8]) -> Meaning
     ensures { λ r. ⌜ r ≡ ofFloat32 (numberAt 4 1 (now (s .entry))) ⌝ }
 {
-    match msgpack_first_bytes::number_at(s, 1, 4) {
+    match msgpack_numbers::number_at(s, 1, 4) {
         Number::Is(n) => float32(n as u32),
         Number::Missing => Meaning::Absent,
     }
@@ -71,7 +71,7 @@ fn float32_meaning(s: &[u8]) -> Meaning
 fn float64_meaning(s: &[u8]) -> Meaning
     ensures { λ r. ⌜ r ≡ ofFloat64 (numberAt 8 1 (now (s .entry))) ⌝ }
 {
-    match msgpack_first_bytes::number_at(s, 1, 8) {
+    match msgpack_numbers::number_at(s, 1, 8) {
         Number::Is(n) => float64(n),
         Number::Missing => Meaning::Absent,
     }

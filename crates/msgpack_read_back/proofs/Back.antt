@@ -15,7 +15,7 @@ use Rattle.msgpack_first_bytes.specs.declared.Kind.the-variants.{Unsigned, Sign
 use Rattle.msgpack_first_bytes.specs.declared.Form.{Form}
 use Rattle.msgpack_first_bytes.specs.declared.Form.the-variants.{Scalar, Array, Map}
 use Rattle.msgpack_first_bytes.proofs.Forms.{agree, short-map, short-array}
-use Rattle.msgpack_first_bytes.specs.Number.{number}
+use Rattle.msgpack_numbers.specs.Number.{number}
 use Rattle.msgpack_values.specs.Value.{shift, payload, sized, items, byForm, one, container, value, inside}
 use Rattle.msgpack_values.specs.Pieces.{joined, Each}
 use Rattle.msgpack_values.specs.declared.Read.{Read}

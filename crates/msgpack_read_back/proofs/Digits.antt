@@ -8,8 +8,8 @@ use lib.Arith.{digits-lt}
 use lib.ListN.{length, take}
 use lib.Seq.{length-take-le}
 use Rattle.msgpack_first_bytes.specs.Bytes.{Bytes}
-use Rattle.msgpack_first_bytes.specs.Number.{number}
-use Rattle.msgpack_first_bytes.proofs.Big.{number-last}
+use Rattle.msgpack_numbers.specs.Number.{number}
+use Rattle.msgpack_numbers.proofs.Big.{number-last}
 use Rattle.msgpack_writing.specs.Forms.{bigEndian}
 use Rattle.msgpack_read_back.specs.Claims.{Octets}
 

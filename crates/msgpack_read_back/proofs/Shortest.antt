@@ -14,7 +14,7 @@ use Rattle.msgpack_first_bytes.specs.declared.Kind.the-variants.{Unsigned, Sign
 use Rattle.msgpack_first_bytes.specs.declared.Form.{Form}
 use Rattle.msgpack_first_bytes.proofs.Logic.{impossible, by-leb, by-ltb}
 use Rattle.msgpack_first_bytes.proofs.Range.{both, both-left, both-right, all, all-at}
-use Rattle.msgpack_first_bytes.specs.Number.{number}
+use Rattle.msgpack_numbers.specs.Number.{number}
 use Rattle.msgpack_scalars.specs.Start.{scalarOf, stringBy, arrayBy, mapBy}
 use Rattle.msgpack_scalars.specs.Integer.{dueIn, due, naturalOf, unsignedBy, unsigned, twosComplement, signedOf, signedBy, signed, adding, integer}
 use Rattle.msgpack_scalars.specs.Header.{counted, header}

@@ -17,9 +17,9 @@ use Rattle.msgpack_first_bytes.specs.declared.Kind.{Kind}
 use Rattle.msgpack_first_bytes.specs.declared.Form.{Form}
 use Rattle.msgpack_first_bytes.proofs.Logic.{impossible, by-leb}
 use Rattle.msgpack_first_bytes.proofs.Range.{both, both-left, both-right, all, all-at}
-use Rattle.msgpack_first_bytes.specs.Number.{number, numberAt}
-use Rattle.msgpack_first_bytes.specs.declared.Number.the-variants.{Is as IsNumber, Missing}
-use Rattle.msgpack_first_bytes.proofs.Big.{number-missing, number-is}
+use Rattle.msgpack_numbers.specs.Number.{number, numberAt}
+use Rattle.msgpack_numbers.specs.declared.Number.the-variants.{Is as IsNumber, Missing}
+use Rattle.msgpack_numbers.proofs.Big.{number-missing, number-is}
 use Rattle.msgpack_scalars.specs.Start.{scalarOf, stringBy, arrayBy, mapBy, startBy, Few}
 use Rattle.msgpack_scalars.specs.Integer.{dueIn, due, naturalOf, twosComplement, signedOf, adding, shiftNatural, shiftInteger}
 use Rattle.msgpack_scalars.specs.Header.{counted, header, shiftHeader}

@@ -11,7 +11,7 @@ use Rattle.msgpack_first_bytes.specs.declared.Kind.the-variants.{Unsigned}
 use Rattle.msgpack_first_bytes.specs.declared.Form.{Form}
 use Rattle.msgpack_first_bytes.specs.declared.Form.the-variants.{Scalar}
 use Rattle.msgpack_first_bytes.proofs.Forms.{agree, short-array}
-use Rattle.msgpack_first_bytes.specs.Number.{number}
+use Rattle.msgpack_numbers.specs.Number.{number}
 use Rattle.msgpack_scalars.specs.Start.{arrayBy}
 use Rattle.msgpack_scalars.specs.Header.{counted, header, shiftHeader}
 use Rattle.msgpack_scalars.specs.Integer.{dueIn, due, naturalOf, unsignedBy, unsigned, adding, integer, shiftInteger}

@@ -7,7 +7,7 @@ use Rattle.msgpack_first_bytes.specs.Bytes.{Bytes, pick}
 use Rattle.msgpack_first_bytes.specs.FirstByte.{formOf}
 use Rattle.msgpack_first_bytes.specs.declared.Kind.{Kind}
 use Rattle.msgpack_first_bytes.specs.declared.Kind.the-variants.{Unsigned, Signed}
-use Rattle.msgpack_first_bytes.specs.Number.{number}
+use Rattle.msgpack_numbers.specs.Number.{number}
 use Rattle.msgpack_scalars.specs.Start.{scalarOf}
 use Rattle.msgpack_scalars.specs.declared.Start.{Start}
 use Rattle.msgpack_scalars.specs.declared.Start.the-variants.{Here, Elsewhere}

@@ -1,7 +1,7 @@
 // Unsigned numbers, integers, and the headers of strings, arrays and maps.
 use msgpack_first_bytes::Form;
 use msgpack_first_bytes::Kind;
-use msgpack_first_bytes::Number;
+use msgpack_numbers::Number;
 ghost use mathlib.Core.Path.{_≡_};
 ghost use Prim.Native.Nat.{_+_, _-_, _*_, _^_, _<_, _≤_};
 ghost use lib.ListN.{length, take, drop, getD};
@@ -130,7 +130,7 @@ fn natural_of(s: &[u8], at: usize, more: usize) -> u64
     if more == 0 {
         return s[at] as u64;
     }
-    let Number::Is(n) = msgpack_first_bytes::number_at(s, at + 1, more) else {
+    let Number::Is(n) = msgpack_numbers::number_at(s, at + 1, more) else {
         return 0;
     };
     n
@@ -163,7 +163,7 @@ fn signed_of(s: &[u8], at: usize, more: usize) -> Int
     if more == 0 {
         return Int::BelowZero((255 - s[at]) as u64);
     }
-    let Number::Is(n) = msgpack_first_bytes::number_at(s, at + 1, more) else {
+    let Number::Is(n) = msgpack_numbers::number_at(s, at + 1, more) else {
         return Int::FromZero(0);
     };
     let half = sign_bit(more);
@@ -203,7 +203,7 @@ fn counted_at(s: &[u8], at: usize, start: Start) -> Header
     let Start::Here(width, fixed) = start else {
         return Header::Other;
     };
-    let Number::Is(n) = msgpack_first_bytes::number_at(s, at + 1, width) else {
+    let Number::Is(n) = msgpack_numbers::number_at(s, at + 1, width) else {
         return Header::Other;
     };
     Header::Is(n as usize + fixed, at + (1 + width))

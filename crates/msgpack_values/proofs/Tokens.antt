@@ -17,7 +17,7 @@ use Rattle.msgpack_first_bytes.specs.declared.Form.the-variants.{Unused, Scalar
 use Rattle.msgpack_first_bytes.proofs.Logic.{either}
 use Rattle.msgpack_first_bytes.proofs.Range.{all, all-at}
 use Rattle.msgpack_first_bytes.proofs.Forms.{short-map, short-array}
-use Rattle.msgpack_first_bytes.specs.Number.{number}
+use Rattle.msgpack_numbers.specs.Number.{number}
 use Rattle.msgpack_values.specs.Value.{shift, payload, sized, items, byForm, value, inside}
 use Rattle.msgpack_values.specs.Tokens.{scalarLength, shortCount, Tells}
 use Rattle.msgpack_values.specs.declared.Read.{Read}

@@ -7,7 +7,7 @@ use Rattle.msgpack_first_bytes.specs.Bytes.{Bytes, pick}
 use Rattle.msgpack_first_bytes.specs.FirstByte.{formOf}
 use Rattle.msgpack_first_bytes.specs.declared.Form.{Form}
 use Rattle.msgpack_first_bytes.specs.declared.Form.the-variants.{Unused, Scalar, Array, Map}
-use Rattle.msgpack_first_bytes.specs.Number.{number}
+use Rattle.msgpack_numbers.specs.Number.{number}
 use Rattle.msgpack_values.specs.declared.Read.{Read}
 use Rattle.msgpack_values.specs.declared.Read.the-variants.{Whole, Broken}
 

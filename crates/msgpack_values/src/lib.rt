@@ -3,7 +3,7 @@ ghost use mathlib.Core.Path.{_≡_};
 ghost use Prim.Native.Nat.{_+_, _-_, _*_, _^_, _<_, _≤_};
 ghost use lib.ListN.{length, take, drop, getD};
 ghost use Rattle.msgpack_first_bytes.specs.FirstByte.{formOf};
-ghost use Rattle.msgpack_first_bytes.specs.Number.{number};
+ghost use Rattle.msgpack_numbers.specs.Number.{number};
 ghost use Rattle.msgpack_values.specs.Value.{shift, payload, sized, items, inside, value};
 ghost use Rattle.msgpack_values.specs.Tokens.{scalarLength, shortCount, Width, Ends, Tells};
 

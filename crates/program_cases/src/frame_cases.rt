@@ -5,7 +5,7 @@ use crate::text::print_number;
 use frames::Frame;
 use frames::OptionalNumber;
 use frames::Place;
-use msgpack_first_bytes::Number;
+use msgpack_numbers::Number;
 ghost use Prim.Native.Nat.{_≤_};
 
 fn print_optional(n: OptionalNumber) {
@@ -77,7 +77,7 @@ pub(crate) fn print_read(bytes: &[u8]) {
 }
 
 fn number_in(record: &[u8], at: usize, width: usize) -> u64 {
-    match msgpack_first_bytes::number_at(record, at, width) {
+    match msgpack_numbers::number_at(record, at, width) {
         Number::Is(n) => n,
         Number::Missing => 0,
     }

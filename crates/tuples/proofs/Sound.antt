@@ -12,7 +12,7 @@ use lib.IntN.{ℤ, pos, negsuc, _+ℤ_, _-ℤ_}
 use lib.ListN.{length, getD, length-append}
 use Rattle.msgpack_first_bytes.specs.Bytes.{Bytes, pick}
 use Rattle.msgpack_first_bytes.specs.FirstByte.{formOf}
-use Rattle.msgpack_first_bytes.specs.Number.{number}
+use Rattle.msgpack_numbers.specs.Number.{number}
 use Rattle.msgpack_values.specs.Value.{value, one, byForm, sized, payload}
 use Rattle.msgpack_values.specs.Pieces.{Single}
 use Rattle.msgpack_scalars.specs.declared.Int.{Int}

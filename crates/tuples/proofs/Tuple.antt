@@ -14,7 +14,7 @@ use lib.Seq.{take-length, drop-append-seam}
 use Rattle.msgpack_first_bytes.specs.Bytes.{Bytes, pick}
 use Rattle.msgpack_first_bytes.specs.FirstByte.{formOf}
 use Rattle.msgpack_first_bytes.specs.declared.Form.{Form}
-use Rattle.msgpack_first_bytes.specs.Number.{number}
+use Rattle.msgpack_numbers.specs.Number.{number}
 use Rattle.msgpack_values.specs.Value.{value, items}
 use Rattle.msgpack_values.specs.Pieces.{pieces, joined, Each}
 use Rattle.msgpack_values.specs.declared.Read.{Read}

@@ -4,9 +4,9 @@ use Prim.Native.Nat.{ℕ, _+_, _*_, _^_, _<_, _≤_}
 use mathlib.Core.Path.{_≡_, sym, _∙_}
 use lib.ListN.{length, take, drop}
 use Rattle.msgpack_first_bytes.specs.Bytes.{Bytes}
-use Rattle.msgpack_first_bytes.specs.Number.{number}
-use Rattle.msgpack_first_bytes.proofs.Big as Big
-use Rattle.msgpack_first_bytes.proofs.Big.{number-missing, number-is}
+use Rattle.msgpack_numbers.specs.Number.{number}
+use Rattle.msgpack_numbers.proofs.Big as Big
+use Rattle.msgpack_numbers.proofs.Big.{number-missing, number-is}
 use Rattle.msgpack_scalars.specs.Header.{counted}
 use Rattle.msgpack_scalars.proofs.Laws as Laws
 use borrow.Author.Needs.{needs}

@@ -2,7 +2,7 @@
 use borrow.Author.Needs.{needs}
 use native.Mathlib.Omega.{arith}
 use mathlib.Core.Path.{refl}
-use Rattle.msgpack_first_bytes.proofs.Big as Big
+use Rattle.msgpack_numbers.proofs.Big as Big
 use Rattle.msgpack_values.proofs.length_at.Statement.{statement}
 use Rattle.msgpack_values.proofs.length_at.Tie as tie
 

@@ -5,11 +5,11 @@ use Prim.Native.Nat.{_+_, _-_, _*_, _^_, _<_, _≤_}
 use mathlib.Core.Path.{_≡_, refl, ap}
 use mathlib.Core.Bool.{and-false}
 use lib.ListN.{length, take, drop}
-use Rattle.msgpack_first_bytes.specs.Number.{number}
-use Rattle.msgpack_first_bytes.specs.declared.Number.the-variants.{Is}
-use Rattle.msgpack_first_bytes.proofs.Big.{number-next, grow, small}
-use Rattle.msgpack_first_bytes.proofs.number_at.Statement.{statement}
-use Rattle.msgpack_first_bytes.proofs.number_at.Tie as tie
+use Rattle.msgpack_numbers.specs.Number.{number}
+use Rattle.msgpack_numbers.specs.declared.Number.the-variants.{Is}
+use Rattle.msgpack_numbers.proofs.Big.{number-next, grow, small}
+use Rattle.msgpack_numbers.proofs.number_at.Statement.{statement}
+use Rattle.msgpack_numbers.proofs.number_at.Tie as tie
 
 abbrev Inv-loop : tie.InvT-loop
 Inv-loop s at width n₀ i₀ n i = (i ≤ width) × (n ≡ number (take i (drop at s))) × (n < 2 ^ (8 * i))

@@ -13,10 +13,10 @@ use borrow.Author.Tests.{leb-true, le-leb}
 use lib.Dec.{leb}
 use lib.Arith.{digits-lt}
 use lib.Pow.{pow-add, pow-mono}
 use Rattle.msgpack_first_bytes.specs.Bytes.{Bytes, pick}
-use Rattle.msgpack_first_bytes.specs.Number.{number, numberAt}
-use Rattle.msgpack_first_bytes.specs.declared.Number.the-variants.{Is, Missing}
+use Rattle.msgpack_numbers.specs.Number.{number, numberAt}
+use Rattle.msgpack_numbers.specs.declared.Number.the-variants.{Is, Missing}
 use Rattle.msgpack_first_bytes.proofs.Logic.{impossible, either}
 
 -- one byte more at the low end
 pub number-last : (s : Bytes) (b : ℕ) → number (s ++ (b ∷ [])) ≡ number s * 256 + b

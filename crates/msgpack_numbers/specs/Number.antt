@@ -4,9 +4,9 @@ use mathlib.Core.Bool.{_&&_}
 use mathlib.Core.List.{[], _∷_}
 use lib.ListN.{length, take, drop}
 use lib.Dec.{leb}
 use Rattle.msgpack_first_bytes.specs.Bytes.{Bytes, pick}
-use Rattle.msgpack_first_bytes.specs.declared.Number.{Number}
-use Rattle.msgpack_first_bytes.specs.declared.Number.the-variants.{Is, Missing}
+use Rattle.msgpack_numbers.specs.declared.Number.{Number}
+use Rattle.msgpack_numbers.specs.declared.Number.the-variants.{Is, Missing}
 
 -- the sum of the bytes by powers of 256
 unfoldable pub number : Bytes → ℕ
