@@ -16,7 +16,7 @@ ghost use Rattle.tuples.specs.Tuple.{Fields, fieldsOf};
 ghost use Rattle.tuples.specs.Call.{updateCall, undoCall};
 ghost use Rattle.tuples.specs.Sequence.{Event, Demand3};
 ghost use Rattle.answers.specs.Seen.{seen};
-ghost use Rattle.laksubinat.specs.Shown.{bit, held, placed, integerShown, meaningShown, shown, result};
+ghost use Rattle.laksubinat.specs.Shown.{bit, byBits, byPlace, integerShown, meaningShown, shown, result};
 
 // The answer for a value read alone, as C sees it: 0 with its kind, length and content, or 4 and else 0.
 #[repr(C)]
@@ -37,8 +37,8 @@ fn bit(b: bool) -> u64
 }
 
 // A value that is told by its bits.
-fn held(number: u32, length: usize, kind: u32, bits: u64) -> ValueAnswer
-    ensures { λ r. ⌜ r ≡ held number length kind bits ⌝ }
+fn by_bits(number: u32, length: usize, kind: u32, bits: u64) -> ValueAnswer
+    ensures { λ r. ⌜ r ≡ byBits number length kind bits ⌝ }
 {
     ValueAnswer {
         number,
@@ -52,7 +52,7 @@ fn held(number: u32, length: usize, kind: u32, bits: u64) -> ValueAnswer
 }
 
 // A value that is told by the place of its content.
-fn placed(
+fn by_place(
     number: u32,
     length: usize,
     kind: u32,
@@ -60,7 +60,7 @@ fn placed(
     size: usize,
     ext_type: u8,
 ) -> ValueAnswer
-    ensures { λ r. ⌜ r ≡ placed number length kind start size «ext_type» ⌝ }
+    ensures { λ r. ⌜ r ≡ byPlace number length kind start size «ext_type» ⌝ }
 {
     ValueAnswer {
         number,
@@ -77,8 +77,8 @@ fn integer_shown(number: u32, length: usize, z: Int) -> ValueAnswer
     ensures { λ r. ⌜ r ≡ integerShown number length z ⌝ }
 {
     match z {
-        Int::FromZero(n) => held(number, length, 2, n),
-        Int::BelowZero(m) => held(number, length, 3, 0xffff_ffff_ffff_ffff - m),
+        Int::FromZero(n) => by_bits(number, length, 2, n),
+        Int::BelowZero(m) => by_bits(number, length, 3, 0xffff_ffff_ffff_ffff - m),
     }
 }
 
@@ -86,17 +86,17 @@ fn meaning_shown(number: u32, length: usize, meaning: Meaning) -> ValueAnswer
     ensures { λ r. ⌜ r ≡ meaningShown number length meaning ⌝ }
 {
     match meaning {
-        Meaning::Absent => held(number, length, 0, 0),
-        Meaning::Nil => held(number, length, 0, 0),
-        Meaning::Boolean(b) => held(number, length, 1, bit(b)),
+        Meaning::Absent => by_bits(number, length, 0, 0),
+        Meaning::Nil => by_bits(number, length, 0, 0),
+        Meaning::Boolean(b) => by_bits(number, length, 1, bit(b)),
         Meaning::Integer(z) => integer_shown(number, length, z),
-        Meaning::Float32(_, bits) => held(number, length, 4, bits as u64),
-        Meaning::Float64(_, bits) => held(number, length, 5, bits),
-        Meaning::String(start, size) => placed(number, length, 6, start, size, 0),
-        Meaning::Bin(start, size) => placed(number, length, 7, start, size, 0),
-        Meaning::Ext(t, start, size) => placed(number, length, 8, start, size, t),
-        Meaning::Array(start, size) => placed(number, length, 9, start, size, 0),
-        Meaning::Map(start, size) => placed(number, length, 10, start, size, 0),
+        Meaning::Float32(_, bits) => by_bits(number, length, 4, bits as u64),
+        Meaning::Float64(_, bits) => by_bits(number, length, 5, bits),
+        Meaning::String(start, size) => by_place(number, length, 6, start, size, 0),
+        Meaning::Bin(start, size) => by_place(number, length, 7, start, size, 0),
+        Meaning::Ext(t, start, size) => by_place(number, length, 8, start, size, t),
+        Meaning::Array(start, size) => by_place(number, length, 9, start, size, 0),
+        Meaning::Map(start, size) => by_place(number, length, 10, start, size, 0),
     }
 }
 

@@ -225,7 +225,7 @@ pub strings-read-back : StringsReadBack
 strings-read-back =
     record {
       long = λ s t h. rw append-assoc (string-header-back (length s) (s ++ t) h);
-      bytes = λ s t. rw (append-assoc, drop-append-seam, take-append-seam);
+      bytes = λ s t. rw (append-assoc, drop-append-seam) (take-append-seam s t);
       whole = string-whole;
     }
 

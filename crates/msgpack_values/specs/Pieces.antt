@@ -8,14 +8,14 @@ use Rattle.msgpack_values.specs.declared.Read.{Read}
 use Rattle.msgpack_values.specs.declared.Read.the-variants.{Whole, Broken}
 
 -- the bytes of a first value, and then those of the rest
-abbrev pub cut : Read → Bytes → (ℕ → List Bytes) → List Bytes
-cut (Whole k) s f = take k s ∷ f k
-cut (Broken p) s f = []
+abbrev pub pieceThen : Read → Bytes → (ℕ → List Bytes) → List Bytes
+pieceThen (Whole k) s f = take k s ∷ f k
+pieceThen (Broken p) s f = []
 
 -- the bytes of each of n values, read by v
 unfoldable pub pieces : (Bytes → Read) → ℕ → Bytes → List Bytes
 pieces v zero s = []
-pieces v (suc n) s = cut (v s) s (λ k. pieces v n (drop k s))
+pieces v (suc n) s = pieceThen (v s) s (λ k. pieces v n (drop k s))
 
 unfoldable pub joined : List Bytes → Bytes
 joined [] = []

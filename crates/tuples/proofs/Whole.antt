@@ -7,7 +7,7 @@ use lib.ListN.{length, getD, take, drop}
 use lib.Seq.{take-length, length-take-le}
 use Rattle.msgpack_first_bytes.specs.Bytes.{Bytes}
 use Rattle.msgpack_values.specs.Value.{value, items, andThen}
-use Rattle.msgpack_values.specs.Pieces.{cut, pieces, Single, Each, none, more}
+use Rattle.msgpack_values.specs.Pieces.{pieceThen, pieces, Single, Each, none, more}
 use Rattle.msgpack_values.specs.declared.Read.{Read}
 use Rattle.msgpack_values.specs.declared.Read.the-variants.{Whole, Broken}
 use Rattle.msgpack_values.proofs.Local.{value-good, value-local, never, shift-whole}
@@ -47,7 +47,7 @@ pieces-each d (suc n) s k e = go (value d s) refl e (pieces-each d n)
   where
     go : (r : Read) → value d s ≡ r → andThen r (λ j. items (value d) n (drop j s)) ≡ Whole k
         → ((s : Bytes) (k : ℕ) → items (value d) n s ≡ Whole k → Each (value d) (pieces (value d) n s))
-        → Each (value d) (cut r s (λ j. pieces (value d) n (drop j s)))
+        → Each (value d) (pieceThen r s (λ j. pieces (value d) n (drop j s)))
     go (Broken p) q e ih = never p k e
     go (Whole j) q e ih =
         let m = shift-whole j k (items (value d) n (drop j s)) e in
