@@ -15,7 +15,7 @@ use Rattle.frames.specs.declared.Place.{Place}
 use Rattle.frames.specs.Limits.{maxSize, knownKeys}
 use Rattle.frames.specs.Held.{Held, absent, number, numberHeld, placeHeld}
 use Rattle.frames.specs.Keys.{allLines, headerFields, bodyFields, withHeld, headerItems, bodyItems}
-use Rattle.frames.proofs.Front.{impossible}
+use Rattle.msgpack_first_bytes.proofs.Logic.{impossible}
 use Rattle.frame_rules.specs.Needs.{lineAt, noLine}
 use Rattle.frame_items.specs.Content.{heldOf, itemOf, allItems, blank, numberContent, placeContent, allContents, contentAt, knownKeyAt, capped}
 use Rattle.frame_items.specs.declared.Content.{Content}

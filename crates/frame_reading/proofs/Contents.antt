@@ -29,7 +29,6 @@ use Rattle.frames.specs.Limits.{maxSize, maxDepth, heldDepth}
 use Rattle.frames.specs.Maps.{entriesAt}
 use Rattle.frames.specs.Cascade.{check, whole}
 use Rattle.frames.specs.Reading.{refuse, byEntries, bodyValue, bodyEntries, inFrame, sizeBy, sizeOf, bySize, frameRead}
-use Rattle.frames.proofs.Front.{impossible}
 use Rattle.frame_reading.specs.Steps.{bodyAt, entriesIn}
 use Rattle.frame_reading.specs.declared.Body.the-variants.{At, Missing}
 

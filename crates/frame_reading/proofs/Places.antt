@@ -18,7 +18,7 @@ use Rattle.frames.specs.Limits.{heldDepth}
 use Rattle.frames.specs.Maps.{Entry, entriesAt, keys, distinct}
 use Rattle.frames.specs.Cascade.{check, given}
 use Rattle.frames.specs.Reading.{refuse, accept, suited, byPlaces, byEntries}
-use Rattle.frames.proofs.Front.{impossible}
+use Rattle.msgpack_first_bytes.proofs.Logic.{impossible}
 use Rattle.frame_tables.specs.Tables.{Table, table, emptyTable, laidAll, tabledOn, tabled, placeIn}
 use Rattle.frame_tables.proofs.Entries.{AllFit, nil, all-fit}
 use Rattle.frame_tables.proofs.Found.{places-found, number-found, tabled-room}

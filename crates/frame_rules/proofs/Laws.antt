@@ -13,7 +13,7 @@ use lib.Seq.{take-append-seam}
 use Rattle.frames.specs.Codes.{codes, among, isError, required}
 use Rattle.frames.specs.Keys.{allLines}
 use Rattle.frames.specs.Limits.{knownKeys}
-use Rattle.frames.proofs.Front.{impossible}
+use Rattle.msgpack_first_bytes.proofs.Logic.{impossible}
 use Rattle.frame_rules.specs.Needs.{needsFor, needsOf, lineAt, noLine}
 use Rattle.frame_rules.specs.declared.Needs.{Needs}
 

@@ -17,7 +17,8 @@ use Rattle.tuples.specs.Call.{numberOf, Outcome, refusal, bytes, judged,
 use Rattle.tuples.specs.Sequence.{State, onAnswer}
 use Rattle.tuples.specs.declared.Refusal.{Refusal}
 use Rattle.tuples.specs.declared.Refusal.the-variants.{BadTuple, BadList, NoField, Unsuited, OutOfRange, TooLarge, LongUndo, ShortBuffer}
-use Rattle.tuples.proofs.Cases.{impossible, both-hold}
+use Rattle.msgpack_first_bytes.proofs.Logic.{impossible}
+use Rattle.tuples.proofs.Cases.{both-hold}
 use Rattle.tuples.proofs.Legal.{Legal}
 use Rattle.tuples.proofs.Tuple.{fields-legal}
 use Rattle.tuples.proofs.Decode.{list-fine, list-back}

@@ -1,14 +1,9 @@
--- What a test says, and cases that never come. Assumes nothing.
+-- What a test says. Assumes nothing.
 use mathlib.Core.Path.{_≡_, refl}
 use mathlib.Core.Bool.{Bool, true, false, _&&_}
 use mathlib.Core.Option.{Option, none, some}
-use Prim.Native.Nat.{ℕ}
-use native.Mathlib.Omega.{arith}
 use Rattle.msgpack_first_bytes.specs.Bytes.{pick}
-
--- where `cc` finds two constructors to be equal
-pub impossible : {A : Type 0} → _≡_ {A = ℕ} 0 1 → A
-impossible z = absurd (omega arith)
+use Rattle.msgpack_first_bytes.proofs.Logic.{impossible}
 
 pub both-hold : (a b : Bool) → (a && b) ≡ true → (a ≡ true) × (b ≡ true)
 both-hold true true h = (refl, refl)

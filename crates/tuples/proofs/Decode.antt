@@ -23,7 +23,8 @@ use Rattle.tuples.specs.Tuple.{plain}
 use Rattle.tuples.specs.Decoding.{Got, fails, gets, Decoder, onGot, then, made, nothing, valueFrom, anyValue, integerFrom, anyInteger, less, floor, atLeast, position, string, countFrom, count, mark}
 use Rattle.tuples.specs.Operation.{Action, plus, minus, and, xor, or, assign, insert, remove, splice, Operation, three, five, actionOf, operation, before, andMore, operations, listBy, operationsOf}
 use Rattle.tuples.specs.Edit.{operationBytes}
-use Rattle.tuples.proofs.Cases.{impossible, guarded}
+use Rattle.msgpack_first_bytes.proofs.Logic.{impossible}
+use Rattle.tuples.proofs.Cases.{guarded}
 use Rattle.tuples.proofs.Whole.{single-front, single-take}
 
 -- ---- what every answer of a decoder is

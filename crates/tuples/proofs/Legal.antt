@@ -16,7 +16,8 @@ use Rattle.tuples.specs.Limits.{maxFields, maxTuple, fieldDepth}
 use Rattle.tuples.specs.Tuple.{Fields, plain}
 use Rattle.tuples.specs.Edit.{stop, next, fits, limited}
 use Rattle.tuples.specs.declared.Refusal.the-variants.{TooLarge}
-use Rattle.tuples.proofs.Cases.{impossible, both-hold}
+use Rattle.msgpack_first_bytes.proofs.Logic.{impossible}
+use Rattle.tuples.proofs.Cases.{both-hold}
 
 pub record Fits (t : Fields) : Type 0 where
   pub few : length t ≤ maxFields

@@ -9,7 +9,7 @@ use Rattle.msgpack_first_bytes.specs.Bytes.{Bytes}
 use Rattle.tuples.specs.Tuple.{Fields, plain, fieldsOf}
 use Rattle.tuples.specs.Call.{Outcome, refusal, bytes, update, undo, delivered, updateCall, undoCall}
 use Rattle.tuples.specs.Sequence.{Event, updating, takingBack, OnPile, State, start, goesIn, takeBackCall, afterTakingBack, stateAfter, stateAfterAll, Holds, EachHolds, Demand3}
-use Rattle.tuples.proofs.Cases.{impossible}
+use Rattle.msgpack_first_bytes.proofs.Logic.{impossible}
 use Rattle.tuples.proofs.Tuple.{fields-legal, read-plain}
 use Rattle.tuples.proofs.Calls.{TakesBack, went-in, by-answer}
 

@@ -16,7 +16,7 @@ use Rattle.tuples.specs.Limits.{fieldDepth}
 use Rattle.tuples.specs.Tuple.{Fields}
 use Rattle.tuples.specs.Operation.{assign, insert, remove, Operation, operation}
 use Rattle.tuples.specs.Edit.{Edit, refuse, put, add, cut, spliced, editAt, fieldAt, Plan, planOf, plans, Step, stop, next, perform, step, Run, done, onward, run, operationBytes, restored, inverse, undoOf}
-use Rattle.tuples.proofs.Cases.{impossible}
+use Rattle.msgpack_first_bytes.proofs.Logic.{impossible}
 use Rattle.tuples.proofs.Whole.{each-append, each-take, each-drop, each-at}
 use Rattle.tuples.proofs.Legal.{Fits, Legal, limited-fits, limited-next, plain-length, field-length, fits-less}
 use Rattle.tuples.proofs.Decode.{ReadAs, at, assign-back, insert-back, remove-back, Written, none-left, one-more, written-append}

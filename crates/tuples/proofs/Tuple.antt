@@ -29,11 +29,11 @@ use Rattle.msgpack_scalars.specs.declared.Header.{Header}
 use Rattle.msgpack_scalars.specs.declared.Header.the-variants.{Is, Other}
 use Rattle.msgpack_writing.specs.Forms.{bigEndian, arrayHeader}
 use Rattle.msgpack_read_back.proofs.Back.{array-header-back}
-use Rattle.msgpack_first_bytes.proofs.Logic.{by-leb}
+use Rattle.msgpack_first_bytes.proofs.Logic.{impossible, by-leb}
 use Rattle.msgpack_writing.proofs.Lengths.{array-mono}
 use Rattle.tuples.specs.Limits.{maxFields, maxTuple, fieldDepth}
 use Rattle.tuples.specs.Tuple.{Fields, plain, filling, fieldsFilling, fieldsBy, fieldsOf}
-use Rattle.tuples.proofs.Cases.{impossible, guarded}
+use Rattle.tuples.proofs.Cases.{guarded}
 use Rattle.tuples.proofs.Whole.{pieces-each}
 use Rattle.tuples.proofs.Legal.{Legal, plain-length}
 
