@@ -1,7 +1,5 @@
 -- The listing. Document 01: "The listing program reads standard input, at most 65,536 bytes, and writes tab-parted lines."
-use Prim.Native.Nat.{ℕ, zero, suc, _-_}
-use Prim.Native.String.{String}
-use mathlib.Core.Bool.{Bool, true, false}
+use Prim.Native.Nat.{ℕ, zero, suc, _-_, _*_}
 use mathlib.Core.List.{List, [], _∷_, _++_}
 use lib.Dec.{leb, eqb}
 use lib.ListN.{length}
@@ -34,17 +32,17 @@ unfoldable pub frameLine : ℕ → ℕ → OptionalNumber → ℕ → Bytes
 frameLine n code sync bytes = line (decimal n ∷ kindOf code ∷ syncText sync ∷ decimal bytes ∷ [])
 
 -- the last line: how the input ended, and a number
-unfoldable pub lastLine : String → ℕ → Bytes
-lastLine how n = line (text "end" ∷ text how ∷ decimal n ∷ [])
+unfoldable pub lastLine : Bytes → ℕ → Bytes
+lastLine how n = line (text "end" ∷ how ∷ decimal n ∷ [])
 
 -- "`end incomplete` with the bytes left, or `end refused` with the number": 1 says that bytes are missing
 unfoldable pub refusedLine : ℕ → ℕ → Bytes
-refusedLine number left = pick (eqb number 1) (lastLine "incomplete" left) (lastLine "refused" number)
+refusedLine number left = pick (eqb number 1) (lastLine (text "incomplete") left) (lastLine (text "refused") number)
 
 -- the lines of what is left of the input, the frames numbered from n on; its first k bytes belong to the frame before and are passed over
 -- "The last line is `end clean 0`" where nothing is left.
 unfoldable pub lines : ℕ → ℕ → Bytes → Bytes
-lines k n [] = lastLine "clean" 0
+lines k n [] = lastLine (text "clean") 0
 lines (suc k) n (b ∷ s) = lines k n s
 lines zero n (b ∷ s) =
     let a : FrameAnswer = frameRead (b ∷ s) in
@@ -54,4 +52,8 @@ lines zero n (b ∷ s) =
 
 -- "for longer input only the first line and `end long 65536`"
 unfoldable pub listing : Bytes → Bytes
-listing s = heading ++ pick (leb (length s) maxInput) (lines 0 1 s) (lastLine "long" maxInput)
+listing s = heading ++ pick (leb (length s) maxInput) (lines 0 1 s) (lastLine (text "long") maxInput)
+
+-- the lines of any input are no longer than this (the contract of `list`)
+abbrev pub room : ℕ
+room = 22 * maxInput

@@ -8,11 +8,14 @@ ghost use lib.ListN.{length, take, drop};
 ghost use Rattle.msgpack_writing.specs.Put.{put, next};
 ghost use Rattle.frame_listing.specs.Text.{decimal};
 ghost use Rattle.frame_listing.specs.Names.{kindOf};
-ghost use Rattle.frame_listing.specs.Listing.{syncText, frameLine, lines, listing};
-ghost use Rattle.frame_listing.specs.Steps.{after, roomy, room};
+ghost use Rattle.frame_listing.specs.Listing.{maxInput, room, syncText, frameLine, lastLine, listing};
+ghost use Rattle.frame_listing.specs.Steps.{named, First};
 
 // Input longer than this is not listed.
 pub const MOST: usize = 65_536;
+
+// The lines of any input have room in this.
+pub const ROOM: usize = 22 * MOST;
 
 // The digits of `n`, at the end of `digits`: where they begin.
 fn spell(n: u64, digits: &mut [u8]) -> usize
@@ -72,4 +75,115 @@ pub fn write_sync(out: &mut [u8], at: usize, sync: OptionalNumber) -> usize
     } else {
         write_bytes(out, at, b"-")
     }
+}
+
+// A frame's number and its kind.
+fn write_named(out: &mut [u8], number: u64, code: u64) -> usize
+    requires { ⌜ length (named number code) ≤ length (now out) ⌝ }
+    ensures { λ r. ⌜ (r ≡ next 0 (named number code) (now (out .entry)))
+        × (now (out .exit) ≡ put 0 (named number code) (now (out .entry))) ⌝ }
+{
+    let mut at = write_decimal(out, 0, number);
+    at = write_bytes(out, at, b"\t");
+    at = write_kind(out, at, code);
+    write_bytes(out, at, b"\t")
+}
+
+// The line of a frame: its number, kind, sync and bytes.
+fn write_frame(out: &mut [u8], number: u64, code: u64, sync: OptionalNumber, bytes: u64) -> usize
+    requires { ⌜ length (frameLine number code sync bytes) ≤ length (now out) ⌝ }
+    ensures { λ r. ⌜ (r ≡ next 0 (frameLine number code sync bytes) (now (out .entry)))
+        × (now (out .exit) ≡ put 0 (frameLine number code sync bytes) (now (out .entry))) ⌝ }
+{
+    let mut at = write_named(out, number, code);
+    at = write_sync(out, at, sync);
+    at = write_bytes(out, at, b"\t");
+    at = write_decimal(out, at, bytes);
+    write_bytes(out, at, b"\n")
+}
+
+// The last line.
+fn write_last(out: &mut [u8], how: &[u8], n: u64) -> usize
+    requires { ⌜ length (lastLine (now how) n) ≤ length (now out) ⌝ }
+    ensures { λ r. ⌜ (r ≡ next 0 (lastLine (now (how .entry)) n) (now (out .entry)))
+        × (now (out .exit) ≡ put 0 (lastLine (now (how .entry)) n) (now (out .entry))) ⌝ }
+{
+    let mut at = write_bytes(out, 0, b"end\t");
+    at = write_bytes(out, at, how);
+    at = write_bytes(out, at, b"\t");
+    at = write_decimal(out, at, n);
+    write_bytes(out, at, b"\n")
+}
+
+// How long a line is, and how many bytes of the input it is for: none where it is the last.
+struct Line {
+    length: usize,
+    bytes: usize,
+}
+
+// The line for what stands first, at the front of `line`.
+fn first_line(left: &[u8], number: u64, line: &mut [u8]) -> Line
+    requires { ⌜ (length (now left) ≤ maxInput) × (number ≤ maxInput) × (length (now line) ≡ 64) ⌝ }
+    ensures { λ r. ⌜ First number (now (left .entry)) r (now (line .exit)) ⌝ }
+{
+    if left.len() == 0 {
+        let length = write_last(line, b"clean", 0);
+        return Line { length, bytes: 0 };
+    }
+    let answer = frame_reading::read_frame(left);
+    if answer.number == 1 {
+        let length = write_last(line, b"incomplete", left.len() as u64);
+        return Line { length, bytes: 0 };
+    }
+    if answer.number != 0 {
+        let length = write_last(line, b"refused", answer.number as u64);
+        return Line { length, bytes: 0 };
+    }
+    let frame = answer.frame;
+    let bytes = answer.length;
+    let length = write_frame(line, number, frame.code, frame.sync, bytes as u64);
+    Line { length, bytes }
+}
+
+// The lines of input that is not too long, as far as they have room; how long they are.
+fn lay(input: &[u8], out: &mut [u8]) -> usize
+    requires { ⌜ length (now input) ≤ maxInput ⌝ }
+    ensures { λ r. ⌜ (r ≡ length (listing (now (input .entry)))) × ((r ≤ room)
+        × (length (listing (now (input .entry))) ≤ length (now (out .entry)) → now (out .exit) ≡ put 0 (listing (now (input .entry))) (now (out .entry)))) ⌝ }
+{
+    let mut line = [0u8; 64];
+    let heading = b"frame\tkind\tsync\tbytes\n";
+    write_bytes(out, 0, heading);
+    let mut to: usize = heading.len();
+    let mut at: usize = 0;
+    let mut number: u64 = 1;
+    loop {
+        let next = first_line(&input[at..], number, &mut line);
+        let length = next.length;
+        let bytes = next.bytes;
+        write_bytes(out, to, &line[..length]);
+        to += length;
+        if bytes == 0 {
+            return to;
+        }
+        at += bytes;
+        number += 1;
+    }
+}
+
+// The listing, at the front of `out`: how long it is; 0, and nothing written, where it has no room.
+pub fn list(input: &[u8], out: &mut [u8]) -> usize
+    ensures { λ r. ⌜ (r ≡ next 0 (listing (now (input .entry))) (now (out .entry)))
+        × (now (out .exit) ≡ put 0 (listing (now (input .entry))) (now (out .entry))) ⌝ }
+    ensures { λ _. ⌜ length (listing (now (input .entry))) ≤ room ⌝ }
+{
+    if MOST < input.len() {
+        return write_bytes(out, 0, b"frame\tkind\tsync\tbytes\nend\tlong\t65536\n");
+    }
+    let mut none = [0u8; 1];
+    let length = lay(input, &mut none);
+    if out.len() < length {
+        return 0;
+    }
+    lay(input, out)
 }
