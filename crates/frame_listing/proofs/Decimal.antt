@@ -72,9 +72,9 @@ module _ (l w : Bytes) (n i : ℕ) (h : i ≤ length l) (k : length (decimal n) 
         (
           omega arith,
           ap (_++_ (decimal (n / 10))) (store l (i - 1) (n % 10 + 48) (omega arith))
-          ∙ rw (j, v) (sym (append-assoc (decimal (n / 10)) (digit (n % 10)) (drop i l)))
-          ∙ ap (λ (x : Bytes). x ++ drop i l) (sym m)
-          ∙ e,
+              ∙ rw (j, v) (sym (append-assoc (decimal (n / 10)) (digit (n % 10)) (drop i l)))
+              ∙ ap (λ (x : Bytes). x ++ drop i l) (sym m)
+              ∙ e,
         ),
       )
 

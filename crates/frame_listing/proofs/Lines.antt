@@ -86,7 +86,7 @@ sync-short x h = go (x .present)
     go true = few 19 (x .value) (omega arith)
     go false = omega arith
 
-pub frame-short : (n code : ℕ) (x : OptionalNumber) (k : ℕ) → n ≤ maxInput → x .value < 2 ^ 64 → k ≤ maxInput → length (frameLine n code x k) ≤ 41
+pub frame-short : (n code : ℕ) (x : OptionalNumber) (k : ℕ) → n ≤ maxInput + 1 → x .value < 2 ^ 64 → k ≤ maxInput → length (frameLine n code x k) ≤ 41
 unfolding frameLine
 frame-short n code x k h i j =
     let a = few 4 n (omega arith) in

@@ -8,7 +8,7 @@ ghost use lib.ListN.{length, take, drop};
 ghost use Rattle.msgpack_writing.specs.Put.{put, next};
 ghost use Rattle.frame_listing.specs.Text.{decimal};
 ghost use Rattle.frame_listing.specs.Names.{kindOf};
-ghost use Rattle.frame_listing.specs.Listing.{maxInput, room, syncText, frameLine, lastLine, listing};
+ghost use Rattle.frame_listing.specs.Listing.{maxInput, room, syncText, frameLine, lastLine, lines, listing};
 ghost use Rattle.frame_listing.specs.Steps.{named, First};
 
 // Input longer than this is not listed.
@@ -16,6 +16,9 @@ pub const MOST: usize = 65_536;
 
 // The lines of any input have room in this.
 pub const ROOM: usize = 22 * MOST;
+
+// How many bytes the first line has.
+const HEADING: usize = 22;
 
 // The digits of `n`, at the end of `digits`: where they begin.
 fn spell(n: u64, digits: &mut [u8]) -> usize
@@ -123,7 +126,7 @@ struct Line {
 
 // The line for what stands first, at the front of `line`.
 fn first_line(left: &[u8], number: u64, line: &mut [u8]) -> Line
-    requires { ⌜ (length (now left) ≤ maxInput) × (number ≤ maxInput) × (length (now line) ≡ 64) ⌝ }
+    requires { ⌜ (length (now left) ≤ maxInput) × (number ≤ maxInput + 1) × (length (now line) ≡ 64) ⌝ }
     ensures { λ r. ⌜ First number (now (left .entry)) r (now (line .exit)) ⌝ }
 {
     if left.len() == 0 {
@@ -145,23 +148,21 @@ fn first_line(left: &[u8], number: u64, line: &mut [u8]) -> Line
     Line { length, bytes }
 }
 
-// The lines of input that is not too long, as far as they have room; how long they are.
-fn lay(input: &[u8], out: &mut [u8]) -> usize
-    requires { ⌜ length (now input) ≤ maxInput ⌝ }
-    ensures { λ r. ⌜ (r ≡ length (listing (now (input .entry)))) × ((r ≤ room)
-        × (length (listing (now (input .entry))) ≤ length (now (out .entry)) → now (out .exit) ≡ put 0 (listing (now (input .entry))) (now (out .entry)))) ⌝ }
+// The lines of input that is not too long, from `from` on, as far as they have room; how long they are.
+fn lay(input: &[u8], out: &mut [u8], from: usize) -> usize
+    requires { ⌜ (length (now input) ≤ maxInput) × (from ≤ maxInput) ⌝ }
+    ensures { λ r. ⌜ (r ≡ length (lines 0 1 (now (input .entry)))) × ((r ≤ 21 * maxInput + 23)
+        × (from + r ≤ length (now (out .entry)) → now (out .exit) ≡ put from (lines 0 1 (now (input .entry))) (now (out .entry)))) ⌝ }
 {
     let mut line = [0u8; 64];
-    let heading = b"frame\tkind\tsync\tbytes\n";
-    write_bytes(out, 0, heading);
-    let mut to: usize = heading.len();
+    let mut to: usize = 0;
     let mut at: usize = 0;
     let mut number: u64 = 1;
     loop {
         let next = first_line(&input[at..], number, &mut line);
         let length = next.length;
         let bytes = next.bytes;
-        write_bytes(out, to, &line[..length]);
+        write_bytes(out, from + to, &line[..length]);
         to += length;
         if bytes == 0 {
             return to;
@@ -181,9 +182,10 @@ pub fn list(input: &[u8], out: &mut [u8]) -> usize
         return write_bytes(out, 0, b"frame\tkind\tsync\tbytes\nend\tlong\t65536\n");
     }
     let mut none = [0u8; 1];
-    let length = lay(input, &mut none);
-    if out.len() < length {
+    let length = lay(input, &mut none, 0);
+    if out.len() < HEADING + length {
         return 0;
     }
-    lay(input, out)
+    let from = write_bytes(out, 0, b"frame\tkind\tsync\tbytes\n");
+    from + lay(input, out, from)
 }

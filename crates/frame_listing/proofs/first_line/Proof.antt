@@ -8,9 +8,6 @@ use Rattle.frame_listing.proofs.Within.{Within, frame-within}
 use Rattle.frame_listing.proofs.first_line.Statement.{statement}
 use Rattle.frame_listing.proofs.first_line.Tie as tie
 
-room : tie.Need-write-last-requires
-room c κs = let s = c .before .before .before .before .before in last-short (text "clean") 0 0 _ (omega arith) (omega (arith, s .pre .2))
-
 room-2 : tie.Need-write-last-requires-2
 room-2 c κs = let s = c .before .before .before .before .before .before .before .before in last-short (text "incomplete") 4 _ _ (omega (arith, s .pre .0)) (omega (arith, s .pre .2))
 
@@ -80,4 +77,7 @@ returns-4 c =
 
 pub first-line-spec : {M : Type 1} → statement M
 first-line-spec =
-    tie.close (tie.spec (λ c. search needs) room (λ c. search needs) returns (λ c κs. search needs) (λ c. search needs) room-2 (λ c. search needs) returns-2 (λ c. search needs) (λ c. search needs) room-3 (λ c. search needs) returns-3 room-4 (λ c. search needs) returns-4)
+    tie.close (tie.spec (λ c. search needs)
+    (λ c κs. let s = c .before .before .before .before .before in last-short (text "clean") 0 0 _ (omega arith) (omega (arith, s .pre .2)))
+    (λ c. search needs) returns (λ c κs. search needs) (λ c. search needs) room-2 (λ c. search needs) returns-2 (λ c. search needs)
+    (λ c. search needs) room-3 (λ c. search needs) returns-3 room-4 (λ c. search needs) returns-4)

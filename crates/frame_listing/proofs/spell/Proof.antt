@@ -36,5 +36,7 @@ returns c =
 
 pub spell-spec : {M : Type 1} → statement M
 spell-spec =
-    tie.close (tie.spec Inv-loop μ-loop loop-holds (λ c. let p = some-left _ _ (c .before .loop .inv .1 .1 .0) in omega arith) (λ c. omega arith) (λ c. omega arith) (λ c. let p = some-left _ _ (c .before .loop .inv .1 .1 .0) in omega arith) (λ c. omega arith)
-    loop-again (λ c. let p = some-left _ _ (c .before .loop .inv .1 .1 .0) in omega arith) (λ c. omega arith) (λ c. omega arith) (λ c. let p = some-left _ _ (c .before .loop .inv .1 .1 .0) in omega arith) (λ c. simp length-set (omega arith)) returns)
+    tie.close (tie.spec Inv-loop μ-loop loop-holds (λ c. let p = some-left _ _ (c .before .loop .inv .1 .1 .0) in omega arith) (λ c. omega arith)
+    (λ c. omega arith) (λ c. let p = some-left _ _ (c .before .loop .inv .1 .1 .0) in omega arith) (λ c. omega arith) loop-again
+    (λ c. let p = some-left _ _ (c .before .loop .inv .1 .1 .0) in omega arith) (λ c. omega arith) (λ c. omega arith)
+    (λ c. let p = some-left _ _ (c .before .loop .inv .1 .1 .0) in omega arith) (λ c. simp length-set (omega arith)) returns)

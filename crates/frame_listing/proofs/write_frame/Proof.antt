@@ -26,4 +26,5 @@ returns c =
 
 pub write-frame-spec : {M : Type 1} → statement M
 write-frame-spec =
-    tie.close (tie.spec write-named-requires (λ c κs. search needs) (λ c. search needs) (λ c κs. search needs) (λ c κs. search needs) (λ c. search needs) (λ c κs. search needs) (λ c. search needs) returns)
+    tie.close (tie.spec write-named-requires (λ c κs. search needs) (λ c. search needs) (λ c κs. search needs) (λ c κs. search needs) (λ c. search needs)
+    (λ c κs. search needs) (λ c. search needs) returns)
