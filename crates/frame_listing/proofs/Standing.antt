@@ -11,6 +11,7 @@ use lib.Seq.{drop-at, take-at, drop-drop, take-add, take-all, length-take-le}
 use Rattle.msgpack_first_bytes.specs.Bytes.{Bytes}
 use Rattle.msgpack_writing.specs.Put.{put, next}
 use Rattle.msgpack_writing.proofs.Put.{Wrote, wrote, written, nothing, join}
+use Rattle.msgpack_writing.proofs.Choice.{by-leb}
 use Rattle.frame_listing.specs.Text.{text, digits, decimal}
 use Rattle.frame_listing.specs.Listing.{maxInput, heading, lastLine, lines, listing}
 use Rattle.frame_listing.specs.Steps.{after, most, First}
@@ -108,3 +109,8 @@ module _ (s old : Bytes) (h : length s ≤ maxInput) where
       let y : next from (lines 0 1 s) cur ≡ from + length (lines 0 1 s) = wrote cur from (lines 0 1 s) (refl, refl) u .end in
       let v : Wrote cur from (lines 0 1 s) new (from + r) = wrote cur from (lines 0 1 s) (omega arith, f k) u in
       rw short (written (join w v))
+
+-- what was written ends in the buffer
+pub next-within : (p old : Bytes) (r : ℕ) → r ≡ next 0 p old → r ≤ length old
+unfolding next
+next-within p old r e = rw e (by-leb (λ (a : ℕ). a ≤ length old) (0 + length p) (length old) (λ h. h) (λ h. omega arith))

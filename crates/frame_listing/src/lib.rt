@@ -176,7 +176,7 @@ fn lay(input: &[u8], out: &mut [u8], from: usize) -> usize
 pub fn list(input: &[u8], out: &mut [u8]) -> usize
     ensures { λ r. ⌜ (r ≡ next 0 (listing (now (input .entry))) (now (out .entry)))
         × (now (out .exit) ≡ put 0 (listing (now (input .entry))) (now (out .entry))) ⌝ }
-    ensures { λ _. ⌜ length (listing (now (input .entry))) ≤ room ⌝ }
+    ensures { λ r. ⌜ (length (listing (now (input .entry))) ≤ room) × (r ≤ length (now (out .entry))) ⌝ }
 {
     if MOST < input.len() {
         return write_bytes(out, 0, b"frame\tkind\tsync\tbytes\nend\tlong\t65536\n");

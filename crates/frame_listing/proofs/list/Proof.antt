@@ -4,7 +4,7 @@ use native.Mathlib.Omega.{arith}
 use borrow.Author.Needs.{needs}
 use Rattle.msgpack_writing.proofs.Put.{refused}
 use Rattle.frame_listing.specs.Listing.{heading}
-use Rattle.frame_listing.proofs.Standing.{listing-long, listing-length, headed, both}
+use Rattle.frame_listing.proofs.Standing.{listing-long, listing-length, headed, both, next-within}
 use Rattle.frame_listing.proofs.list.Statement.{statement}
 use Rattle.frame_listing.proofs.list.Tie as tie
 
@@ -13,7 +13,7 @@ returns c =
     let w = c .before .before in
     let i = w .before .before .before in
     let e = listing-long (i .before .before .before .args .input .now) (i .if1 .taken) in
-    (rw e (w .write-bytes .ensures), rw e (omega arith))
+    (rw e (w .write-bytes .ensures), (rw e (omega arith), next-within _ _ _ (w .write-bytes .ensures .0)))
 
 returns-2 : tie.Need-returns-2
 returns-2 c =
@@ -22,7 +22,7 @@ returns-2 c =
     let a = i .before .before .before .args in
     let e = listing-length (a .input .now) (a .out .now) (i .if1 .left) in
     let z = k .lay .ensures in
-    (refused (a .out .now) 0 _ (omega (arith, e, z .0, c .if2 .taken)), omega (arith, e, z .0, z .1 .0))
+    (refused (a .out .now) 0 _ (omega (arith, e, z .0, c .if2 .taken)), (omega (arith, e, z .0, z .1 .0), omega arith))
 
 lay-requires-2 : tie.Need-lay-requires-2
 unfolding heading
@@ -56,10 +56,9 @@ returns-3 c =
     let a = i .before .before .before .args in
     let e = listing-length (a .input .now) (a .out .now) (i .if1 .left) in
     let z = k .lay2 .ensures in
-    let y = q .lay .ensures in (
-      both (a .input .now) (a .out .now) (i .if1 .left) (w .write-bytes2 .ensures) (z .0) (z .1 .1) (omega (arith, z .0, y .0, j .if2 .left)),
-      omega (arith, e, z .0, z .1 .0),
-    )
+    let y = q .lay .ensures in
+    let b = both (a .input .now) (a .out .now) (i .if1 .left) (w .write-bytes2 .ensures) (z .0) (z .1 .1) (omega (arith, z .0, y .0, j .if2 .left)) in
+    (b, (omega (arith, e, z .0, z .1 .0), next-within _ _ _ (b .0)))
 
 pub list-spec : {M : Type 1} → statement M
 list-spec =
