@@ -1,0 +1,12 @@
+-- A sync is written as a number, or as `-`. Assumes nothing.
+use borrow.Author.Needs.{needs}
+use Rattle.frame_listing.specs.Listing.{syncText}
+use Rattle.frame_listing.proofs.write_sync.Statement.{statement}
+use Rattle.frame_listing.proofs.write_sync.Tie as tie
+
+pub write-sync-spec : {M : Type 1} → statement M
+unfolding syncText
+write-sync-spec =
+    tie.close (tie.spec (λ c κs. search needs) (λ c. search needs) (λ c κs. search needs) (λ c. search needs)
+    (λ c. rw (c .before .before .before .before .if1 .taken) (c .before .before .write-decimal .ensures)) (λ c. search needs)
+    (λ c. rw (c .before .before .before .before .before .if1 .left) (c .before .before .write-bytes .ensures)))

@@ -1,2 +1,0 @@
--- A frame that was read lies within the bytes. Assumes nothing.
-pub mod Within
