@@ -10,7 +10,7 @@ use lib.Dec.{ltb}
 use lib.ListN.{length, drop, set, length-append, length-set}
 use lib.Seq.{drop-cons, drop-set-lt, getD-set-same}
 use Rattle.msgpack_first_bytes.specs.Bytes.{Bytes, pick}
-use Rattle.msgpack_writing.proofs.Choice.{either}
+use Rattle.msgpack_first_bytes.proofs.Logic.{either}
 use Rattle.frame_listing.specs.Text.{digit, digits, decimal}
 
 -- enough is enough

@@ -4,11 +4,11 @@ use mathlib.Core.Path.{_≡_, refl}
 use Prim.Native.String.{String}
 use Rattle.msgpack_first_bytes.specs.Bytes.{Bytes}
 use Rattle.msgpack_first_bytes.specs.FirstByte.{formOf, sameKind}
-use Rattle.msgpack_values.specs.Number.{number as sum}
+use Rattle.msgpack_numbers.specs.Number.{number as sum}
 use Rattle.msgpack_values.specs.Value.{value, one, container, tooDeep, byForm, items, sized, payload}
 use Rattle.msgpack_scalars.specs.Integer.{dueIn, due, naturalOf, unsignedBy, unsigned}
 use Rattle.msgpack_scalars.specs.Header.{counted, header}
-use Rattle.frames.specs.Held.{all, view, natural, numberIn, opened, suits, numbered, heldIn, heldAt, numberHeld, placeHeld}
+use Rattle.frames.specs.Held.{all, view, asNumber, numberIn, isHeader, suits, numberOrBytes, valueHeld, heldAt, numberHeld, placeHeld}
 use Rattle.frames.specs.Keys.{headerItems, bodyItems, optional, codeIn, frameAt, emptyFrame}
 use Rattle.frames.specs.Codes.{codes, among, isError, required}
 use Rattle.frames.specs.Maps.{keyed, entryAt, entries, entriesBy, entriesAt, keys, has, distinct, find}
@@ -30,5 +30,5 @@ ping = 0x03 ∷ 0x81 ∷ 0x00 ∷ 0x40 ∷ []
 
 -- "For that select and one more byte `ce`, whole"
 as-in-01 : listing (select ++ (0xce ∷ [])) ≡ text "frame\tkind\tsync\tbytes\n1\tselect\t4\t32\nend\tincomplete\t1\n"
-unfolding listing lines refusedLine lastLine frameLine syncText heading kindOf nameIn names decimal digits frameRead bySize sizeOf sizeBy inFrame bodyEntries bodyValue byEntries byPlaces suited accept refuse whole given check find distinct has keys entriesAt entriesBy entries entryAt keyed required isError among codes emptyFrame frameAt codeIn optional headerItems bodyItems numberHeld placeHeld heldAt heldIn numbered suits opened numberIn natural view all value one container tooDeep byForm items sized payload sum formOf sameKind unsigned unsignedBy due dueIn naturalOf header counted
+unfolding listing lines refusedLine lastLine frameLine syncText heading kindOf nameIn names decimal digits frameRead bySize sizeOf sizeBy inFrame bodyEntries bodyValue byEntries byPlaces suited accept refuse whole given check find distinct has keys entriesAt entriesBy entries entryAt keyed required isError among codes emptyFrame frameAt codeIn optional headerItems bodyItems numberHeld placeHeld heldAt valueHeld numberOrBytes suits isHeader numberIn asNumber view all value one container tooDeep byForm items sized payload sum formOf sameKind unsigned unsignedBy due dueIn naturalOf header counted
 as-in-01 = refl
