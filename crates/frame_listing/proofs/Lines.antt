@@ -10,7 +10,7 @@ use lib.ListN.{length, take, drop, length-append}
 use Rattle.msgpack_first_bytes.specs.Bytes.{Bytes, pick}
 use Rattle.msgpack_first_bytes.proofs.Range.{both, both-left, both-right}
 use Rattle.msgpack_writing.specs.Put.{put, next}
-use Rattle.msgpack_writing.proofs.Put.{wrote, got}
+use Rattle.msgpack_writing.proofs.Put.{wrote, through}
 use Rattle.frames.specs.Codes.{isError}
 use Rattle.frames.specs.Reading.{frameRead}
 use Rattle.frames.specs.declared.OptionalNumber.{OptionalNumber}
@@ -114,7 +114,7 @@ module _ (n : ℕ) (s old : Bytes) {cur : Bytes} {r : ℕ} where
   line-first l k e h i m w =
       let v = wrote old 0 l e (front h) in
       let z : r ≡ length l = omega arith in
-      let y : take r cur ≡ l = rw z (got v) in
+      let y : take r cur ≡ l = through v in
       record {
         is = i ∙ ap (λ (x : Bytes). x ++ after k n s) (sym y);
         short = rw z m;

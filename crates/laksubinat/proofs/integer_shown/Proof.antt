@@ -8,4 +8,4 @@ pub integer-shown-spec : {M : Type 1} → statement M
 integer-shown-spec =
     tie.close (tie.spec (λ c. search needs) (λ c κs. search needs) (λ c. search needs) (λ c. search needs) (λ c κs. search needs)
     (λ c. unfold integerShown in rw (c .before .before .z .given .1, c .by-bits .ensures))
-    (λ c. unfold integerShown in rw (c .before .before .z2 .given .1, c .held2 .ensures)))
+    (λ c. unfold integerShown in rw (c .before .before .z2 .given .1, c .by-bits2 .ensures)))
