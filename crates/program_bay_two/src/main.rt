@@ -1,7 +1,20 @@
 // The story of bay two on its own bytes: one press of the wash-mode button, an update frame with
-// `^`, arrives twice; the record after each, the undo lists beside them, and both presses taken back.
+// `^`, arrives twice; the record after each, the undo lists beside them, and both presses taken
+// back. A press goes in only where the update and its undo list are both accepted; one is refused.
 use libc::STDOUT_FILENO;
 use parts::bytes_of;
+
+const UPDATE: u64 = 0x04;
+
+// What a press came to: it went in, with the bytes written of the new record and of its undo list;
+// or the frame, its kind, the update or the undo list kept it out, with the refusal's number.
+enum Press {
+    In(usize, usize),
+    NoFrame(u32),
+    NoUpdate,
+    Refused(u32, u32),
+    NoUndo(u32),
+}
 
 fn print(text: &[u8]) {
     io::write_all(STDOUT_FILENO, text);
@@ -19,55 +32,82 @@ fn print_bytes(name: &[u8], bytes: &[u8]) {
     print(b"\n");
 }
 
-fn same(a: &[u8], b: &[u8]) -> bool {
-    if a.len() != b.len() {
-        return false;
-    }
-    let mut i: usize = 0;
-    while i < a.len() {
-        if a[i] != b[i] {
-            return false;
-        }
-        i += 1;
-    }
-    true
+// Words, then a refusal's number.
+fn print_number(words: &[u8], number: u32) {
+    print(words);
+    io::print_decimal(STDOUT_FILENO, number as u64);
 }
 
-// How many bytes of a record's buffer and of an undo list's are written.
-struct Written {
-    record: usize,
-    undo: usize,
+// Why a press stays out.
+fn print_refusal(press: Press) {
+    match press {
+        Press::In(_, _) => print(b"it went in"),
+        Press::NoFrame(n) => print_number(b"it stays out: no frame, refused with ", n),
+        Press::NoUpdate => print(b"it stays out: the frame is no update"),
+        Press::Refused(n, i) => {
+            print_number(b"it stays out: the update is refused with ", n);
+            print_number(b" at operation ", i);
+        }
+        Press::NoUndo(n) => {
+            print_number(
+                b"it stays out: it could not be taken out, its undo list is refused with ",
+                n,
+            );
+        }
+    }
+    print(b"\n");
 }
 
 // The frame arrives: its list is carried out on the record, and beside the new record the box
-// writes what takes it back.
-fn arrive(frame: &[u8], record: &[u8], after: &mut [u8], undo: &mut [u8]) -> Written {
+// writes what takes it back. Where either is refused, the record stays what it is.
+fn arrive(frame: &[u8], record: &[u8], after: &mut [u8], undo: &mut [u8]) -> Press {
     let read = frame_reading::read_frame(frame);
+    if read.number != 0 {
+        return Press::NoFrame(read.number);
+    }
+    if read.frame.code != UPDATE {
+        return Press::NoUpdate;
+    }
     let place = read.frame.tuple;
     let base = read.frame.index_base;
     let list = frame_fields::view_of(frame, place);
     let updated = updates::update(record, list, base.value, after);
-    let undone = updates::undo(record, list, base.value, undo);
-    Written {
-        record: updated.length,
-        undo: undone.length,
+    if updated.number != 0 {
+        return Press::Refused(updated.number, updated.operation);
     }
+    let undone = updates::undo(record, list, base.value, undo);
+    if undone.number != 0 {
+        return Press::NoUndo(undone.number);
+    }
+    Press::In(updated.length, undone.length)
 }
 
 // The presses, and both taken back in the turn opposite to theirs; the record is in `last` then.
 fn press_twice(frame: &[u8], record: &[u8], last: &mut [u8]) -> usize {
     let mut once = [0u8; 64];
-    let mut twice = [0u8; 64];
     let mut undo_1 = [0u8; 64];
-    let mut undo_2 = [0u8; 64];
     let first = arrive(frame, record, &mut once, &mut undo_1);
-    let after_1 = bytes_of(&once, 0, first.record);
-    let list_1 = bytes_of(&undo_1, 0, first.undo);
+    let Press::In(n, m) = first else {
+        print_refusal(first);
+        return 0;
+    };
+    let after_1 = bytes_of(&once, 0, n);
+    let list_1 = bytes_of(&undo_1, 0, m);
     print_bytes(b"after one press    ", after_1);
     print_bytes(b"  its undo list    ", list_1);
-    let second = arrive(frame, after_1, &mut twice, &mut undo_2);
-    let after_2 = bytes_of(&twice, 0, second.record);
-    let list_2 = bytes_of(&undo_2, 0, second.undo);
+    press_again(frame, after_1, list_1, last)
+}
+
+fn press_again(frame: &[u8], record: &[u8], list_1: &[u8], last: &mut [u8]) -> usize {
+    let mut twice = [0u8; 64];
+    let mut undo_2 = [0u8; 64];
+    let second = arrive(frame, record, &mut twice, &mut undo_2);
+    let Press::In(n, m) = second else {
+        print_refusal(second);
+        return 0;
+    };
+    let after_2 = bytes_of(&twice, 0, n);
+    let list_2 = bytes_of(&undo_2, 0, m);
     print_bytes(b"after the second   ", after_2);
     print_bytes(b"  its undo list    ", list_2);
     take_back(after_2, list_2, list_1, last)
@@ -81,9 +121,21 @@ fn take_back(record: &[u8], list_2: &[u8], list_1: &[u8], last: &mut [u8]) -> us
     updates::update(after_1, list_1, 0, last).length
 }
 
+// A press on a field that is no number: the record stays, and no undo list comes on the pile.
+fn press_refused(frame: &[u8], record: &[u8]) {
+    let mut after = [0u8; 64];
+    let mut undo = [0u8; 64];
+    print_bytes(b"the press          ", frame);
+    let press = arrive(frame, record, &mut after, &mut undo);
+    print_refusal(press);
+    print_bytes(b"the record         ", record);
+}
+
 fn main() {
     let frame =
         b"\xce\x00\x00\x00\x16\x82\x00\x04\x01\x07\x84\x10\xcd\x02\x00\x11\x00\x20\x91\x11\x21\x91\x93\xa1\x5e\x02\x01";
+    let unsuited =
+        b"\xce\x00\x00\x00\x16\x82\x00\x04\x01\x08\x84\x10\xcd\x02\x00\x11\x00\x20\x91\x11\x21\x91\x93\xa1\x5e\x01\x01";
     let record = b"\x93\x11\xa6bay-02\xcd\x00\x05";
     let mut last = [0u8; 64];
     print(b"One press of the wash-mode button, `^ 1` on field 2, arrives twice.\n\n");
@@ -92,9 +144,11 @@ fn main() {
     let n = press_twice(frame, record, &mut last);
     let back = bytes_of(&last, 0, n);
     print_bytes(b"first taken back   ", back);
-    if same(back, record) {
+    if check::same(back, record) {
         print(b"\nThe record is byte for byte as it was before the presses.\n");
     } else {
         print(b"\nThe record differs from what it was before the presses.\n");
     }
+    print(b"\nA press on field 1, which is no number:\n\n");
+    press_refused(unsuited, record);
 }
