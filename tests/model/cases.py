@@ -11,10 +11,17 @@ import sys
 
 import damaged_values
 import frame_cases
+import listing_cases
 import update_cases
 import values
 
-CALLS = {"v": lambda line: values.line(line.split("\t")[1]), "f": frame_cases.answer, "w": frame_cases.answer, "u": update_cases.answer}
+CALLS = {
+    "v": lambda line: values.line(line.split("\t")[1]),
+    "f": frame_cases.answer,
+    "w": frame_cases.answer,
+    "u": update_cases.answer,
+    "l": listing_cases.answer,
+}
 
 
 def lines():
@@ -26,6 +33,7 @@ def lines():
         yield "v\t%s\t%s\tours" % (bytes(b).hex(), what)
     yield from frame_cases.lines()
     yield from update_cases.lines()
+    yield from listing_cases.lines()
 
 
 def main():

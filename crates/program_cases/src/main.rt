@@ -76,6 +76,15 @@ fn print_updated(line: &[u8]) {
     }
 }
 
+// l: the listing of bytes, frames one after the other.
+fn print_listing(line: &[u8]) {
+    let mut bytes = [0u8; 69632];
+    let mut out = [0u8; 65536];
+    let n = text::expand(field(line, 0), &mut bytes);
+    let length = frame_listing::list(&bytes[0..n], &mut out);
+    text::print_front(&out, length);
+}
+
 // A letter for the call, a tab, and its fields.
 fn print_line(line: &[u8]) {
     if line.len() < 2 {
@@ -88,6 +97,7 @@ fn print_line(line: &[u8]) {
         b'f' => print_frame(fields),
         b'w' => print_written(fields),
         b'u' => print_updated(fields),
+        b'l' => print_listing(fields),
         _ => text::print(b"?\n"),
     }
 }

@@ -7,6 +7,13 @@ pub(crate) fn print(text: &[u8]) {
     io::write_all(STDOUT_FILENO, text);
 }
 
+// The first n bytes of a buffer.
+pub(crate) fn print_front(text: &[u8], n: usize) {
+    if n <= text.len() {
+        print(&text[0..n]);
+    }
+}
+
 // A tab and a number.
 pub(crate) fn print_number(n: usize) {
     print(b"\t");
