@@ -82,7 +82,7 @@ fn print_listing(line: &[u8]) {
     let mut out = [0u8; 65536];
     let n = text::expand(field(line, 0), &mut bytes);
     let length = frame_listing::list(&bytes[0..n], &mut out);
-    text::print_front(&out, length);
+    text::print_text(&out, length);
 }
 
 // A letter for the call, a tab, and its fields.

@@ -7,8 +7,8 @@ pub(crate) fn print(text: &[u8]) {
     io::write_all(STDOUT_FILENO, text);
 }
 
-// The first n bytes of a buffer.
-pub(crate) fn print_front(text: &[u8], n: usize) {
+// The text in the first n bytes of a buffer.
+pub(crate) fn print_text(text: &[u8], n: usize) {
     if n <= text.len() {
         print(&text[0..n]);
     }
