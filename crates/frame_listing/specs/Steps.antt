@@ -10,8 +10,8 @@ use Rattle.frame_listing.specs.Listing.{lines}
 use Rattle.frame_listing.specs.declared.Line.{Line}
 
 -- the first half of a frame's line: number and kind
-unfoldable pub named : ℕ → ℕ → Bytes
-named n code = decimal n ++ (text "\t" ++ (kindOf code ++ text "\t"))
+unfoldable pub numbered : ℕ → ℕ → Bytes
+numbered n code = decimal n ++ (text "\t" ++ (kindOf code ++ text "\t"))
 
 -- what follows the line of frame n of s, which has k bytes; after the last line, where k is 0, nothing
 unfoldable pub after : ℕ → ℕ → Bytes → Bytes

@@ -9,7 +9,7 @@ ghost use Rattle.msgpack_writing.specs.Put.{put, next};
 ghost use Rattle.frame_listing.specs.Text.{decimal};
 ghost use Rattle.frame_listing.specs.Names.{kindOf};
 ghost use Rattle.frame_listing.specs.Listing.{maxInput, room, syncText, frameLine, lastLine, lines, listing};
-ghost use Rattle.frame_listing.specs.Steps.{named, First};
+ghost use Rattle.frame_listing.specs.Steps.{numbered, First};
 
 // Input longer than this is not listed.
 pub const MOST: usize = 65_536;
@@ -46,27 +46,47 @@ pub fn write_decimal(out: &mut [u8], at: usize, n: u64) -> usize
     write_bytes(out, at, &digits[from..])
 }
 
+// The name of a kind: the first `length` of `bytes`.
+struct Kind {
+    length: usize,
+    bytes: [u8; 7],
+}
+
+fn named(length: usize, bytes: [u8; 7]) -> Kind
+    ensures { λ r. ⌜ r ≡ record { length = length; bytes = bytes } ⌝ }
+{
+    Kind { length, bytes }
+}
+
 // A frame's kind, by the names of document 01.
+fn kind_of(code: u64) -> Kind
+    ensures { λ r. ⌜ (take (r .length) (r .bytes) ≡ kindOf code) × (r .length ≤ length (r .bytes)) ⌝ }
+{
+    match code {
+        0x00 => named(2, *b"ok     "),
+        0x01 => named(6, *b"select "),
+        0x02 => named(6, *b"insert "),
+        0x03 => named(7, *b"replace"),
+        0x04 => named(6, *b"update "),
+        0x05 => named(6, *b"delete "),
+        0x06 => named(7, *b"call_16"),
+        0x07 => named(4, *b"auth   "),
+        0x08 => named(4, *b"eval   "),
+        0x09 => named(6, *b"upsert "),
+        0x0a => named(4, *b"call   "),
+        0x40 => named(4, *b"ping   "),
+        0x8000..=0x8fff => named(5, *b"error  "),
+        _ => named(0, *b"       "),
+    }
+}
+
 pub fn write_kind(out: &mut [u8], at: usize, code: u64) -> usize
     ensures { λ r. ⌜ (r ≡ next at (kindOf code) (now (out .entry)))
         × (now (out .exit) ≡ put at (kindOf code) (now (out .entry))) ⌝ }
 {
-    match code {
-        0x00 => write_bytes(out, at, b"ok"),
-        0x01 => write_bytes(out, at, b"select"),
-        0x02 => write_bytes(out, at, b"insert"),
-        0x03 => write_bytes(out, at, b"replace"),
-        0x04 => write_bytes(out, at, b"update"),
-        0x05 => write_bytes(out, at, b"delete"),
-        0x06 => write_bytes(out, at, b"call_16"),
-        0x07 => write_bytes(out, at, b"auth"),
-        0x08 => write_bytes(out, at, b"eval"),
-        0x09 => write_bytes(out, at, b"upsert"),
-        0x0a => write_bytes(out, at, b"call"),
-        0x40 => write_bytes(out, at, b"ping"),
-        0x8000..=0x8fff => write_bytes(out, at, b"error"),
-        _ => write_bytes(out, at, b""),
-    }
+    let kind = kind_of(code);
+    let bytes = kind.bytes;
+    write_bytes(out, at, &bytes[..kind.length])
 }
 
 pub fn write_sync(out: &mut [u8], at: usize, sync: OptionalNumber) -> usize
@@ -81,10 +101,10 @@ pub fn write_sync(out: &mut [u8], at: usize, sync: OptionalNumber) -> usize
 }
 
 // A frame's number and its kind.
-fn write_named(out: &mut [u8], number: u64, code: u64) -> usize
-    requires { ⌜ length (named number code) ≤ length (now out) ⌝ }
-    ensures { λ r. ⌜ (r ≡ next 0 (named number code) (now (out .entry)))
-        × (now (out .exit) ≡ put 0 (named number code) (now (out .entry))) ⌝ }
+fn write_numbered(out: &mut [u8], number: u64, code: u64) -> usize
+    requires { ⌜ length (numbered number code) ≤ length (now out) ⌝ }
+    ensures { λ r. ⌜ (r ≡ next 0 (numbered number code) (now (out .entry)))
+        × (now (out .exit) ≡ put 0 (numbered number code) (now (out .entry))) ⌝ }
 {
     let mut at = write_decimal(out, 0, number);
     at = write_bytes(out, at, b"\t");
@@ -98,7 +118,7 @@ fn write_frame(out: &mut [u8], number: u64, code: u64, sync: OptionalNumber, byt
     ensures { λ r. ⌜ (r ≡ next 0 (frameLine number code sync bytes) (now (out .entry)))
         × (now (out .exit) ≡ put 0 (frameLine number code sync bytes) (now (out .entry))) ⌝ }
 {
-    let mut at = write_named(out, number, code);
+    let mut at = write_numbered(out, number, code);
     at = write_sync(out, at, sync);
     at = write_bytes(out, at, b"\t");
     at = write_decimal(out, at, bytes);

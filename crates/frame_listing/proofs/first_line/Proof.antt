@@ -3,6 +3,7 @@ use native.Mathlib.Omega.{arith}
 use lib.ListN.{length}
 use borrow.Author.Needs.{needs}
 use Rattle.frame_listing.specs.Text.{text}
+use Rattle.frame_listing.specs.Listing.{frameLine}
 use Rattle.frame_listing.proofs.Lines.{frame-first, incomplete-first, number-first, clean-first, last-first, line-first, most-of, last-short, frame-short}
 use Rattle.frame_listing.proofs.Within.{Within, frame-within}
 use Rattle.frame_listing.proofs.first_line.Statement.{statement}
@@ -72,7 +73,7 @@ returns-4 c =
     let f = q .fits in
     let b = s .pre .0 in
     let l = frame-short (s .args .number) (a .frame .code) (a .frame .sync) (a .length) (s .pre .1) (r .read-frame .ok .1 .1 .1 .1 .0 .1 .1 .1 .0 .1 .1 .1 .0 .1) (omega (arith, f, b)) in
-    line-first (s .args .number) (s .args .left .now) (s .args .line .now) _ (a .length) (w .write-frame .ensures) (omega (arith, l, s .pre .2))
+    line-first (s .args .number) (s .args .left .now) (s .args .line .now) (frameLine (s .args .number) (a .frame .code) (a .frame .sync) (a .length)) (a .length) (w .write-frame .ensures) (omega (arith, l, s .pre .2))
     (frame-first _ _ a (r .read-frame .ensures) (omega (arith, z)) (i .if3 .left)) (most-of (a .length) _ m l) f
 
 pub first-line-spec : {M : Type 1} → statement M
