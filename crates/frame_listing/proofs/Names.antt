@@ -1,5 +1,5 @@
 -- The name of each code, as a match finds it. Assumes nothing.
-use mathlib.Core.Path.{_≡_, sym, ap, _∙_}
+use mathlib.Core.Path.{_≡_}
 use mathlib.Core.List.{List, [], _∷_}
 use mathlib.Core.Bool.{false, _&&_}
 use mathlib.Core.Logic.{_⊎_, inl, inr}
@@ -7,11 +7,9 @@ use Prim.Native.Nat.{ℕ, _<_, _≤_}
 use native.Mathlib.Omega.{arith}
 use borrow.Author.Tests.{le-leb, lt-leb, ne-eqb}
 use lib.Dec.{leb}
-use lib.ListN.{length, take}
 use Rattle.frames.specs.Codes.{isError}
 use Rattle.frame_listing.specs.Text.{text}
 use Rattle.frame_listing.specs.Names.{names, nameIn, kindOf}
-use Rattle.frame_listing.specs.declared.Kind.{Kind}
 
 pub error-name : (code : ℕ) → 0x8000 ≤ code → code < 0x9000 → kindOf code ≡ text "error"
 unfolding kindOf isError
@@ -45,12 +43,3 @@ no-name c e ((((((((((((_, n0), n1), n2), n3), n4), n5), n6), n7), n8), n9), na)
       ne-eqb c 0x40 np,
       ne-eqb c 0x00 n0,
     )
-
--- a kind that was made is the kind of a code
-pub shown : (c : ℕ) {r x : Kind} → r ≡ x → kindOf c ≡ take (x .length) (x .bytes) → x .length ≤ length (x .bytes)
-    → (take (r .length) (r .bytes) ≡ kindOf c) × (r .length ≤ length (r .bytes))
-shown c q e l = (rw q (sym e), rw q l)
-
-pub known : {c k : ℕ} {r x : Kind} → r ≡ x → c ≡ k → kindOf k ≡ take (x .length) (x .bytes) → x .length ≤ length (x .bytes)
-    → (take (r .length) (r .bytes) ≡ kindOf c) × (r .length ≤ length (r .bytes))
-known {c} q e h l = shown c q (ap kindOf e ∙ h) l
