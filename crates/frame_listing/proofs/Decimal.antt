@@ -54,7 +54,7 @@ some-digit n = go (either n 9)
 
 -- ---- the loop goes from the last digit to the first
 
-store : (l : Bytes) (j v : ℕ) → j < length l → drop j (set l j v) ≡ v ∷ drop (suc j) l
+pub store : (l : Bytes) (j v : ℕ) → j < length l → drop j (set l j v) ≡ v ∷ drop (suc j) l
 store l j v h =
     let k : j < length (set l j v) = simp length-set h in
     rw (drop-cons (set l j v) j 0, getD-set-same l j v 0, drop-set-lt (suc j) l j v (omega arith))

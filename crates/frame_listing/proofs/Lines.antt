@@ -18,7 +18,7 @@ use Rattle.frames.specs.declared.FrameAnswer.{FrameAnswer}
 use Rattle.frame_listing.specs.Text.{text, decimal}
 use Rattle.frame_listing.specs.Names.{Name, names, nameIn, kindOf}
 use Rattle.frame_listing.specs.Listing.{maxInput, syncText, frameLine, lastLine, refusedLine, lines}
-use Rattle.frame_listing.specs.Steps.{named, after, most, First}
+use Rattle.frame_listing.specs.Steps.{ended, after, most, First}
 use Rattle.frame_listing.specs.declared.Line.{Line}
 use Rattle.frame_listing.proofs.Decimal.{few}
 use Rattle.frame_listing.proofs.Within.{Within, frame-within}
@@ -101,9 +101,9 @@ last-short how k n m h l =
     let a = few k n h in
     simp length-append (omega arith)
 
--- a frame's line in the two parts that are written
-pub frame-parts : (n code : ℕ) (x : OptionalNumber) (k : ℕ) → frameLine n code x k ≡ named n code ++ (syncText x ++ (text "\t" ++ (decimal k ++ text "\n")))
-unfolding frameLine named
+-- a frame's line in the parts that are written
+pub frame-parts : (n code : ℕ) (x : OptionalNumber) (k : ℕ) → frameLine n code x k ≡ ended n 9 ++ (kindOf code ++ (text "\t" ++ ((syncText x ++ text "\t") ++ ended k 10)))
+unfolding frameLine
 frame-parts n code x k = simp append-assoc
 
 -- ---- a line that was written is the first

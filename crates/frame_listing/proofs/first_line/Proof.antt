@@ -3,15 +3,18 @@ use native.Mathlib.Omega.{arith}
 use lib.ListN.{length}
 use borrow.Author.Needs.{needs}
 use Rattle.frame_listing.specs.Text.{text}
+use Rattle.frame_listing.specs.Listing.{frameLine, lastLine}
 use Rattle.frame_listing.proofs.Lines.{frame-first, incomplete-first, number-first, clean-first, last-first, line-first, most-of, last-short, frame-short}
 use Rattle.frame_listing.proofs.Within.{Within, frame-within}
 use Rattle.frame_listing.proofs.first_line.Statement.{statement}
 use Rattle.frame_listing.proofs.first_line.Tie as tie
 
 room-2 : tie.Need-write-last-requires-2
+unfolding lastLine
 room-2 c κs = let s = c .before .before .before .before .before .before .before .before in last-short (text "incomplete") 4 _ _ (omega (arith, s .pre .0)) (omega (arith, s .pre .2))
 
 room-3 : tie.Need-write-last-requires-3
+unfolding lastLine
 room-3 c κs =
     let r = c .before .before .before .before .before .before .before in
     let u = r .read-frame .ok .1 .1 .0 .1 in
@@ -29,6 +32,7 @@ room-4 c κs =
     omega (arith, l, s .pre .2)
 
 returns : tie.Need-returns
+unfolding lastLine
 returns c =
     let w = c .before .before in
     let i = w .before .before .before in
@@ -37,6 +41,7 @@ returns c =
     (last-short (text "clean") 0 0 23 (omega arith) (omega arith))
 
 returns-2 : tie.Need-returns-2
+unfolding lastLine
 returns-2 c =
     let w = c .before .before in
     let i = w .before .before .before in
@@ -48,6 +53,7 @@ returns-2 c =
     (incomplete-first _ _ (r .read-frame .result) (r .read-frame .ensures) (omega (arith, z)) (i .if2 .taken)) (last-short (text "incomplete") 4 _ 23 (omega (arith, b)) (omega arith))
 
 returns-3 : tie.Need-returns-3
+unfolding lastLine
 returns-3 c =
     let w = c .before .before in
     let i = w .before .before .before .before in
@@ -72,10 +78,11 @@ returns-4 c =
     let f = q .fits in
     let b = s .pre .0 in
     let l = frame-short (s .args .number) (a .frame .code) (a .frame .sync) (a .length) (s .pre .1) (r .read-frame .ok .1 .1 .1 .1 .0 .1 .1 .1 .0 .1 .1 .1 .0 .1) (omega (arith, f, b)) in
-    line-first (s .args .number) (s .args .left .now) (s .args .line .now) _ (a .length) (w .write-frame .ensures) (omega (arith, l, s .pre .2))
+    line-first (s .args .number) (s .args .left .now) (s .args .line .now) (frameLine (s .args .number) (a .frame .code) (a .frame .sync) (a .length)) (a .length) (w .write-frame .ensures) (omega (arith, l, s .pre .2))
     (frame-first _ _ a (r .read-frame .ensures) (omega (arith, z)) (i .if3 .left)) (most-of (a .length) _ m l) f
 
 pub first-line-spec : {M : Type 1} → statement M
+unfolding lastLine
 first-line-spec =
     tie.close (tie.spec (λ c. search needs)
     (λ c κs. let s = c .before .before .before .before .before in last-short (text "clean") 0 0 _ (omega arith) (omega (arith, s .pre .2)))

@@ -1,5 +1,4 @@
 -- The last line, piece after piece. Assumes nothing.
-use Rattle.frame_listing.specs.Listing.{lastLine}
 use Rattle.frame_listing.proofs.Lines.{front}
 use borrow.Author.Needs.{needs}
 use Rattle.msgpack_writing.proofs.Put.{wrote, written, step}
@@ -7,17 +6,12 @@ use Rattle.frame_listing.proofs.write_last.Statement.{statement}
 use Rattle.frame_listing.proofs.write_last.Tie as tie
 
 returns : tie.Need-returns
-unfolding lastLine
 returns c =
-    let w5 = c .before .before in
-    let w4 = w5 .before .before .before .before .before in
-    let w3 = w4 .before .before .before .before in
-    let w2 = w3 .before .before .before .before .before in
+    let w2 = c .before .before in
     let w1 = w2 .before .before .before .before in
-    let s = w1 .before .before .before .before .before in
-    written (step _ _ _ (w1 .write-bytes .ensures) (front (s .pre)) (λ h. step _ _ _ (w2 .write-bytes2 .ensures) h (λ h. step _ _ _ (w3 .write-bytes3 .ensures) h (λ h. step _ _ _ (w4 .write-decimal .ensures) h (λ h. wrote _ _ _ (w5 .write-bytes4 .ensures) h)))))
+    let s = w1 .before .before .before .before in
+    written (step _ _ _ (w1 .write-bytes .ensures) (front (s .pre)) (λ h. wrote _ _ _ (w2 .write-number .ensures) h))
 
 pub write-last-spec : {M : Type 1} → statement M
 write-last-spec =
-    tie.close (tie.spec (λ c. search needs) (λ c κs. search needs) (λ c κs. search needs) (λ c. search needs) (λ c κs. search needs) (λ c κs. search needs)
-    (λ c. search needs) (λ c κs. search needs) (λ c. search needs) returns)
+    tie.close (tie.spec (λ c κs. search needs) (λ c κs. search needs) (λ c. search needs) returns)

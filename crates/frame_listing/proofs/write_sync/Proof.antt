@@ -8,5 +8,5 @@ pub write-sync-spec : {M : Type 1} → statement M
 unfolding syncText
 write-sync-spec =
     tie.close (tie.spec (λ c κs. search needs) (λ c. search needs) (λ c κs. search needs) (λ c. search needs)
-    (λ c. rw (c .before .before .before .before .if1 .taken) (c .before .before .write-decimal .ensures)) (λ c. search needs)
+    (λ c. rw (c .before .before .before .before .if1 .taken) (c .before .before .write-number .ensures)) (λ c. search needs)
     (λ c. rw (c .before .before .before .before .before .if1 .left) (c .before .before .write-bytes .ensures)))
