@@ -15,12 +15,14 @@ use Rattle.frames.specs.Codes.{isError}
 use Rattle.frames.specs.Reading.{frameRead}
 use Rattle.frames.specs.declared.OptionalNumber.{OptionalNumber}
 use Rattle.frames.specs.declared.FrameAnswer.{FrameAnswer}
-use Rattle.frame_listing.specs.Text.{text, decimal}
-use Rattle.frame_listing.specs.Names.{Name, names, nameIn, kindOf}
-use Rattle.frame_listing.specs.Listing.{maxInput, syncText, frameLine, lastLine, refusedLine, lines}
-use Rattle.frame_listing.specs.Steps.{ended, after, most, First}
+use Rattle.frame_listing_fields.specs.Text.{text, decimal}
+use Rattle.frame_listing_fields.specs.Names.{Name, names, nameIn, kindOf}
+use Rattle.frame_listing.specs.Listing.{maxInput, frameLine, lastLine, refusedLine, lines}
+use Rattle.frame_listing_fields.specs.Sync.{syncText}
+use Rattle.frame_listing_fields.specs.Steps.{ended}
+use Rattle.frame_listing.specs.Steps.{after, most, First}
 use Rattle.frame_listing.specs.declared.Line.{Line}
-use Rattle.frame_listing.proofs.Decimal.{few}
+use Rattle.frame_listing_fields.proofs.Decimal.{few}
 use Rattle.frame_listing.proofs.Within.{Within, frame-within}
 
 -- room from the front on

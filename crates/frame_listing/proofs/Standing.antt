@@ -12,7 +12,7 @@ use Rattle.msgpack_first_bytes.specs.Bytes.{Bytes}
 use Rattle.msgpack_writing.specs.Put.{put, next}
 use Rattle.msgpack_writing.proofs.Put.{Wrote, wrote, written, nothing, join}
 use Rattle.msgpack_first_bytes.proofs.Logic.{by-leb}
-use Rattle.frame_listing.specs.Text.{text, digits, decimal}
+use Rattle.frame_listing_fields.specs.Text.{text, digits, decimal}
 use Rattle.frame_listing.specs.Listing.{maxInput, heading, lastLine, lines, listing}
 use Rattle.frame_listing.specs.Steps.{after, most, First}
 use Rattle.frame_listing.specs.declared.Line.{Line}

@@ -14,9 +14,10 @@ use Rattle.frames.specs.Codes.{codes, among, isError, required}
 use Rattle.frames.specs.Maps.{keyed, entryAt, entries, entriesBy, entriesAt, keys, has, distinct, find}
 use Rattle.frames.specs.Cascade.{check, given, whole}
 use Rattle.frames.specs.Reading.{refuse, accept, suited, byPlaces, byEntries, bodyValue, bodyEntries, inFrame, sizeBy, sizeOf, bySize, frameRead}
-use Rattle.frame_listing.specs.Text.{text, digits, decimal}
-use Rattle.frame_listing.specs.Names.{names, nameIn, kindOf}
-use Rattle.frame_listing.specs.Listing.{heading, syncText, frameLine, lastLine, refusedLine, lines, listing}
+use Rattle.frame_listing_fields.specs.Text.{text, digits, decimal}
+use Rattle.frame_listing_fields.specs.Names.{names, nameIn, kindOf}
+use Rattle.frame_listing_fields.specs.Sync.{syncText}
+use Rattle.frame_listing.specs.Listing.{heading, frameLine, lastLine, refusedLine, lines, listing}
 
 -- the 32-byte select of document 001
 abbrev select : Bytes

@@ -1,6 +1,4 @@
--- The lines of the listing, from bytes to bytes.
-pub mod Text
-pub mod Names
+-- The listing, from bytes to bytes.
 pub mod Listing
 pub mod Steps
 pub mod Examples

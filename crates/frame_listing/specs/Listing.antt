@@ -7,8 +7,9 @@ use Rattle.msgpack_first_bytes.specs.Bytes.{Bytes, pick}
 use Rattle.frames.specs.declared.OptionalNumber.{OptionalNumber}
 use Rattle.frames.specs.declared.FrameAnswer.{FrameAnswer}
 use Rattle.frames.specs.Reading.{frameRead}
-use Rattle.frame_listing.specs.Text.{text, decimal}
-use Rattle.frame_listing.specs.Names.{kindOf}
+use Rattle.frame_listing_fields.specs.Text.{text, decimal}
+use Rattle.frame_listing_fields.specs.Names.{kindOf}
+use Rattle.frame_listing_fields.specs.Sync.{syncText}
 
 abbrev pub maxInput : ℕ
 maxInput = 65536
@@ -22,10 +23,6 @@ line (f ∷ g ∷ fs) = f ++ (text "\t" ++ line (g ∷ fs))
 -- the first line
 unfoldable pub heading : Bytes
 heading = line (text "frame" ∷ text "kind" ∷ text "sync" ∷ text "bytes" ∷ [])
-
--- "an absent sync is `-`"
-unfoldable pub syncText : OptionalNumber → Bytes
-syncText x = pick (x .present) (decimal (x .value)) (text "-")
 
 -- the line of a frame: its number, kind, sync and bytes
 unfoldable pub frameLine : ℕ → ℕ → OptionalNumber → ℕ → Bytes

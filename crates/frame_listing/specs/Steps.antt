@@ -1,16 +1,11 @@
 -- Inner: a line at a time.
 use mathlib.Core.Path.{_≡_}
 use Prim.Native.Nat.{ℕ, zero, suc, _*_, _≤_}
-use mathlib.Core.List.{[], _∷_, _++_}
+use mathlib.Core.List.{[], _++_}
 use lib.ListN.{length, take, drop}
 use Rattle.msgpack_first_bytes.specs.Bytes.{Bytes}
-use Rattle.frame_listing.specs.Text.{decimal}
 use Rattle.frame_listing.specs.Listing.{lines}
 use Rattle.frame_listing.specs.declared.Line.{Line}
-
--- a number, and the byte that ends its field
-abbrev pub ended : ℕ → ℕ → Bytes
-ended n b = decimal n ++ (b ∷ [])
 
 -- what follows the line of frame n of s, which has k bytes; after the last line, where k is 0, nothing
 unfoldable pub after : ℕ → ℕ → Bytes → Bytes

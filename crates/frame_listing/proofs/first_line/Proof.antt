@@ -2,7 +2,7 @@
 use native.Mathlib.Omega.{arith}
 use lib.ListN.{length}
 use borrow.Author.Needs.{needs}
-use Rattle.frame_listing.specs.Text.{text}
+use Rattle.frame_listing_fields.specs.Text.{text}
 use Rattle.frame_listing.specs.Listing.{frameLine, lastLine}
 use Rattle.frame_listing.proofs.Lines.{frame-first, incomplete-first, number-first, clean-first, last-first, line-first, most-of, last-short, frame-short}
 use Rattle.frame_listing.proofs.Within.{Within, frame-within}

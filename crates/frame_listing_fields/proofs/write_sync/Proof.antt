@@ -1,8 +1,8 @@
 -- A sync is written as a number, or as `-`. Assumes nothing.
 use borrow.Author.Needs.{needs}
-use Rattle.frame_listing.specs.Listing.{syncText}
-use Rattle.frame_listing.proofs.write_sync.Statement.{statement}
-use Rattle.frame_listing.proofs.write_sync.Tie as tie
+use Rattle.frame_listing_fields.specs.Sync.{syncText}
+use Rattle.frame_listing_fields.proofs.write_sync.Statement.{statement}
+use Rattle.frame_listing_fields.proofs.write_sync.Tie as tie
 
 pub write-sync-spec : {M : Type 1} → statement M
 unfolding syncText

@@ -6,7 +6,7 @@ use mathlib.Core.Path.{_≡_, refl}
 use lib.Dec.{eqb}
 use Rattle.msgpack_first_bytes.specs.Bytes.{Bytes, pick}
 use Rattle.frames.specs.Codes.{Code, codes, isError}
-use Rattle.frame_listing.specs.Text.{text}
+use Rattle.frame_listing_fields.specs.Text.{text}
 
 pub record Name : Type 0 where
   pub code : ℕ

@@ -4,11 +4,11 @@ use mathlib.Core.List.{[], _∷_, _++_}
 use Prim.Native.Nat.{ℕ, _<_, _≤_}
 use native.Mathlib.Omega.{arith}
 use lib.ListN.{length, drop, set, length-set, drop-of-length-le}
-use Rattle.frame_listing.specs.Text.{decimal}
-use Rattle.frame_listing.specs.Steps.{ended}
-use Rattle.frame_listing.proofs.Decimal.{few, some-digit, store, turn, last}
-use Rattle.frame_listing.proofs.spell.Statement.{statement}
-use Rattle.frame_listing.proofs.spell.Tie as tie
+use Rattle.frame_listing_fields.specs.Text.{decimal}
+use Rattle.frame_listing_fields.specs.Steps.{ended}
+use Rattle.frame_listing_fields.proofs.Decimal.{few, some-digit, store, turn, last}
+use Rattle.frame_listing_fields.proofs.spell.Statement.{statement}
+use Rattle.frame_listing_fields.proofs.spell.Tie as tie
 
 abbrev Inv-loop : tie.InvT-loop
 Inv-loop n end text₀ i₀ rest₀ text i rest = (length text ≡ 21) × ((i ≤ 20) × ((length (decimal rest) ≤ i) × (decimal rest ++ drop i text ≡ ended n end)))

@@ -3,10 +3,10 @@ use mathlib.Core.Path.{refl, sym}
 use mathlib.Core.Logic.{⊎-elim, inl, inr}
 use native.Mathlib.Omega.{arith}
 use Rattle.frames.specs.Codes.{isError}
-use Rattle.frame_listing.specs.Names.{names, nameIn, kindOf}
-use Rattle.frame_listing.proofs.Names.{error-name, no-name}
-use Rattle.frame_listing.proofs.kind_of.Statement.{statement}
-use Rattle.frame_listing.proofs.kind_of.Tie as tie
+use Rattle.frame_listing_fields.specs.Names.{names, nameIn, kindOf}
+use Rattle.frame_listing_fields.proofs.Names.{error-name, no-name}
+use Rattle.frame_listing_fields.proofs.kind_of.Statement.{statement}
+use Rattle.frame_listing_fields.proofs.kind_of.Tie as tie
 
 returns-14 : tie.Need-returns-14
 returns-14 c =

@@ -11,7 +11,7 @@ use lib.ListN.{length, drop, set, length-append, length-set}
 use lib.Seq.{drop-cons, drop-set-lt, getD-set-same}
 use Rattle.msgpack_first_bytes.specs.Bytes.{Bytes, pick}
 use Rattle.msgpack_first_bytes.proofs.Logic.{either}
-use Rattle.frame_listing.specs.Text.{digit, digits, decimal}
+use Rattle.frame_listing_fields.specs.Text.{digit, digits, decimal}
 
 -- enough is enough
 enough : (f g n : ℕ) → n ≤ f → n ≤ g → digits f n ≡ digits g n

@@ -5,8 +5,8 @@ use native.Mathlib.Omega.{arith}
 use lib.ListN.{drop, length-drop}
 use lib.Seq.{take-all}
 use borrow.Author.Needs.{needs}
-use Rattle.frame_listing.proofs.write_number.Statement.{statement}
-use Rattle.frame_listing.proofs.write_number.Tie as tie
+use Rattle.frame_listing_fields.proofs.write_number.Statement.{statement}
+use Rattle.frame_listing_fields.proofs.write_number.Tie as tie
 
 returns : tie.Need-returns
 returns c =

@@ -2,8 +2,8 @@
 use mathlib.Core.Path.{sym}
 use lib.Seq.{length-take-le}
 use borrow.Author.Needs.{needs}
-use Rattle.frame_listing.proofs.write_kind.Statement.{statement}
-use Rattle.frame_listing.proofs.write_kind.Tie as tie
+use Rattle.frame_listing_fields.proofs.write_kind.Statement.{statement}
+use Rattle.frame_listing_fields.proofs.write_kind.Tie as tie
 
 pub write-kind-spec : {M : Type 1} → statement M
 write-kind-spec =

@@ -8,8 +8,8 @@ use native.Mathlib.Omega.{arith}
 use borrow.Author.Tests.{le-leb, lt-leb, ne-eqb}
 use lib.Dec.{leb}
 use Rattle.frames.specs.Codes.{isError}
-use Rattle.frame_listing.specs.Text.{text}
-use Rattle.frame_listing.specs.Names.{names, nameIn, kindOf}
+use Rattle.frame_listing_fields.specs.Text.{text}
+use Rattle.frame_listing_fields.specs.Names.{names, nameIn, kindOf}
 
 pub error-name : (code : ℕ) → 0x8000 ≤ code → code < 0x9000 → kindOf code ≡ text "error"
 unfolding kindOf isError

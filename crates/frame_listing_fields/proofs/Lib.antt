@@ -1,0 +1,3 @@
+-- The laws of the fields. Assumes nothing.
+pub mod Decimal
+pub mod Names
