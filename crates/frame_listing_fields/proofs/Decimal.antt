@@ -1,56 +1,49 @@
 -- Decimal numbers: a digit more, and how many there are. Assumes nothing.
 use mathlib.Core.Path.{_≡_, refl, sym, ap, _∙_}
-use mathlib.Core.Bool.{Bool, true, false}
 use mathlib.Core.List.{_∷_, _++_, append-assoc}
-use mathlib.Core.Logic.{_⊎_, inl, inr}
 use Prim.Native.Nat.{ℕ, zero, suc, _+_, _-_, _/_, _%_, _^_, _<_, _≤_}
 use native.Mathlib.Omega.{arith}
-use borrow.Author.Tests.{ltb-true, ltb-false, lt-ltb, le-ltb}
+use borrow.Author.Tests.{lt-ltb, le-ltb}
 use lib.Dec.{ltb}
 use lib.ListN.{length, drop, set, length-append, length-set}
 use lib.Seq.{drop-cons, drop-set-lt, getD-set-same}
 use Rattle.msgpack_first_bytes.specs.Bytes.{Bytes, pick}
-use Rattle.msgpack_first_bytes.proofs.Logic.{either}
+use Rattle.msgpack_first_bytes.proofs.Logic.{by-ltb}
 use Rattle.frame_listing_fields.specs.Text.{digit, digits, decimal}
 
--- enough is enough
-enough : (f g n : ℕ) → n ≤ f → n ≤ g → digits f n ≡ digits g n
+-- where f + 1 digits are enough, more change nothing
+enough : (f n : ℕ) → n < 10 ^ suc f → digits f n ≡ digits (suc f) n
 unfolding digits
-enough zero zero n h k = refl
-enough zero (suc g) n h k = let e : n ≡ 0 = omega arith in rw e refl
-enough (suc f) zero n h k = let e : n ≡ 0 = omega arith in rw e refl
-enough (suc f) (suc g) n h k = go (ltb n 10) refl (λ l. enough f g (n / 10) (omega arith) (omega arith))
-  where
-    go : (b : Bool) → ltb n 10 ≡ b → (10 ≤ n → digits f (n / 10) ≡ digits g (n / 10))
-        → pick b (digit n) (digits f (n / 10) ++ digit (n % 10)) ≡ pick b (digit n) (digits g (n / 10) ++ digit (n % 10))
-    go true e r = refl
-    go false e r = ap (λ (l : Bytes). l ++ digit (n % 10)) (r (ltb-false n 10 e))
+enough zero n h = rw (lt-ltb n 10 (omega arith))
+enough (suc f) n h = ap (λ (l : Bytes). pick (ltb n 10) (digit n) (l ++ digit (n % 10))) (enough f (n / 10) (omega arith))
 
 -- no digit is left out
-pub decimal-more : (n : ℕ) → 10 ≤ n → decimal n ≡ decimal (n / 10) ++ digit (n % 10)
+pub decimal-more : (n : ℕ) → 10 ≤ n → n < 10 ^ 20 → decimal n ≡ decimal (n / 10) ++ digit (n % 10)
 unfolding decimal digits
-decimal-more (suc n) h = rw (le-ltb (suc n) 10 h) (ap (λ (l : Bytes). l ++ digit (suc n % 10)) (enough n (suc n / 10) (suc n / 10) (omega arith) (omega arith)))
+decimal-more n h k = rw (le-ltb n 10 h) (ap (λ (l : Bytes). l ++ digit (n % 10)) (enough 18 (n / 10) (omega arith)))
 
 pub decimal-digit : (n : ℕ) → n < 10 → decimal n ≡ digit n
 unfolding decimal digits
-decimal-digit zero h = refl
-decimal-digit (suc n) h = simp (lt-ltb (suc n) 10 h)
+decimal-digit n h = rw (lt-ltb n 10 h)
 
 -- a number below 10 ^ k has at most k digits, and one at least
-pub few : (k n : ℕ) → n < 10 ^ suc k → length (decimal n) ≤ suc k
-few zero n h = rw (decimal-digit n (omega arith)) (omega arith)
-few (suc k) n h = go (either n 9) (few k (n / 10) (omega arith))
+few-digits : (f k n : ℕ) → n < 10 ^ suc k → length (digits f n) ≤ suc k
+unfolding digits
+few-digits zero k n h = omega arith
+few-digits (suc f) k n h = by-ltb (λ (l : Bytes). length l ≤ suc k) n 10 (λ l. omega arith) (λ l. go k h (λ i e. few-digits f i (n / 10) e) l)
   where
-    go : (n ≤ 9) ⊎ (9 < n) → length (decimal (n / 10)) ≤ suc k → length (decimal n) ≤ suc (suc k)
-    go (inl l) r = rw (decimal-digit n (omega arith)) (omega arith)
-    go (inr l) r = rw (decimal-more n (omega arith)) (simp length-append (omega arith))
+    go : (k : ℕ) → n < 10 ^ suc k → ((i : ℕ) → n / 10 < 10 ^ suc i → length (digits f (n / 10)) ≤ suc i) → 10 ≤ n
+        → length (digits f (n / 10) ++ digit (n % 10)) ≤ suc k
+    go zero h r l = absurd (omega arith)
+    go (suc k) h r l = let m = r k (omega arith) in simp length-append (omega arith)
+
+pub few : (k n : ℕ) → n < 10 ^ suc k → length (decimal n) ≤ suc k
+unfolding decimal
+few k n h = few-digits 19 k n h
 
 pub some-digit : (n : ℕ) → 1 ≤ length (decimal n)
-some-digit n = go (either n 9)
-  where
-    go : (n ≤ 9) ⊎ (9 < n) → 1 ≤ length (decimal n)
-    go (inl l) = rw (decimal-digit n (omega arith)) (omega arith)
-    go (inr l) = rw (decimal-more n (omega arith)) (simp length-append (omega arith))
+unfolding decimal digits
+some-digit n = by-ltb (λ (l : Bytes). 1 ≤ length l) n 10 (λ l. omega arith) (λ l. simp length-append (omega arith))
 
 -- ---- the loop goes from the last digit to the first
 
@@ -61,9 +54,9 @@ store l j v h =
 
 module _ (l w : Bytes) (n i : ℕ) (h : i ≤ length l) (k : length (decimal n) ≤ i) (e : decimal n ++ drop i l ≡ w) where
   -- a digit is stored and more are left
-  pub turn : 10 ≤ n → (1 < i) × ((length (decimal (n / 10)) ≤ i - 1) × (decimal (n / 10) ++ drop (i - 1) (set l (i - 1) (n % 10 + 48)) ≡ w))
-  turn t =
-      let m : decimal n ≡ decimal (n / 10) ++ digit (n % 10) = decimal-more n t in
+  pub turn : 10 ≤ n → n < 10 ^ 20 → (1 < i) × ((length (decimal (n / 10)) ≤ i - 1) × (decimal (n / 10) ++ drop (i - 1) (set l (i - 1) (n % 10 + 48)) ≡ w))
+  turn t u =
+      let m : decimal n ≡ decimal (n / 10) ++ digit (n % 10) = decimal-more n t u in
       let s = some-digit (n / 10) in
       let z : length (decimal n) ≡ length (decimal (n / 10)) + 1 = ap length m ∙ length-append (decimal (n / 10)) (digit (n % 10)) in
       let j : suc (i - 1) ≡ i = omega arith in
@@ -79,10 +72,9 @@ module _ (l w : Bytes) (n i : ℕ) (h : i ≤ length l) (k : length (decimal n) 
       )
 
   -- the last one
-  pub last : n < 10 → (0 < i) × (drop (i - 1) (set l (i - 1) (n + 48)) ≡ w)
-  last t =
+  pub last : n < 10 → 0 < i → drop (i - 1) (set l (i - 1) (n + 48)) ≡ w
+  last t u =
       let m : decimal n ≡ digit n = decimal-digit n t in
-      let s = some-digit n in
       let j : suc (i - 1) ≡ i = omega arith in
       let v : n + 48 ≡ 48 + n = omega arith in
-      (omega arith, store l (i - 1) (n + 48) (omega arith) ∙ rw (j, v) (ap (λ (x : Bytes). x ++ drop i l) (sym m)) ∙ e)
+      store l (i - 1) (n + 48) (omega arith) ∙ rw (j, v) (ap (λ (x : Bytes). x ++ drop i l) (sym m)) ∙ e

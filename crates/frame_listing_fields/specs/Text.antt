@@ -2,7 +2,8 @@
 use Prim.Native.Nat.{ℕ, zero, suc, _+_, _/_, _%_}
 use Prim.Native.Char.{code}
 use Prim.Native.String.{String, [] as empty, _∷_ as _before_}
-use mathlib.Core.List.{List, [], _∷_, _++_}
+use mathlib.Core.Path.{_≡_, refl}
+use mathlib.Core.List.{List, [], _∷_, _++_, map}
 use lib.Dec.{ltb}
 use Rattle.msgpack_first_bytes.specs.Bytes.{Bytes, pick}
 
@@ -20,6 +21,11 @@ unfoldable pub digits : ℕ → ℕ → Bytes
 digits zero n = digit n
 digits (suc f) n = pick (ltb n 10) (digit n) (digits f (n / 10) ++ digit (n % 10))
 
--- n has at most n + 1 digits, so none is left out: proofs/Decimal, `decimal-more`
+-- a number below 2^64 has at most 20 digits, so none is left out
 unfoldable pub decimal : ℕ → Bytes
-decimal n = digits n n
+decimal n = digits 19 n
+
+-- computed: the largest of them, and others
+decimals : map decimal (0 ∷ 9 ∷ 10 ∷ 65536 ∷ 18446744073709551615 ∷ []) ≡ text "0" ∷ text "9" ∷ text "10" ∷ text "65536" ∷ text "18446744073709551615" ∷ []
+unfolding decimal digits
+decimals = refl
