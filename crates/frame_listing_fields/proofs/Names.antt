@@ -1,45 +1,40 @@
 -- The name of each code, as a match finds it. Assumes nothing.
-use mathlib.Core.Path.{_≡_}
-use mathlib.Core.List.{List, [], _∷_}
-use mathlib.Core.Bool.{false, _&&_}
-use mathlib.Core.Logic.{_⊎_, inl, inr}
+use mathlib.Core.Path.{_≡_, refl}
+use mathlib.Core.List.{List, [], _∷_, map}
+use mathlib.Core.Bool.{Bool, true, false}
+use mathlib.Core.Option.{none, some}
 use Prim.Native.Nat.{ℕ, _<_, _≤_}
 use native.Mathlib.Omega.{arith}
-use borrow.Author.Tests.{le-leb, lt-leb, ne-eqb}
-use lib.Dec.{leb}
-use Rattle.frames.specs.Codes.{isError}
+use borrow.Author.Tests.{le-leb}
+use lib.Dec.{eqb}
+use Rattle.msgpack_first_bytes.specs.Bytes.{pick}
+use Rattle.msgpack_first_bytes.proofs.Logic.{impossible}
+use Rattle.frames.specs.Codes.{Code, codes, among, isError, required}
 use Rattle.frame_listing_fields.specs.Text.{text}
-use Rattle.frame_listing_fields.specs.Names.{names, nameIn, kindOf}
+use Rattle.frame_listing_fields.specs.Names.{Name, names, nameIn, kindOf}
 
 pub error-name : (code : ℕ) → 0x8000 ≤ code → code < 0x9000 → kindOf code ≡ text "error"
 unfolding kindOf isError
 error-name c h k = rw (le-leb 0x8000 c h, le-leb c 0x8fff (omega arith))
 
-no-error : (c : ℕ) → (c < 0x8000) ⊎ (0x8fff < c) → (leb 0x8000 c && leb c 0x8fff) ≡ false
-no-error c (inl h) = rw (lt-leb 0x8000 c h)
-no-error c (inr h) = rw (le-leb 0x8000 c (omega arith), lt-leb c 0x8fff h)
+-- two tables of the same codes: what is not in the one has no name in the other
+alike : (c : ℕ) (ns : List Name) (ks : List Code) → map (λ (n : Name). n .code) ns ≡ map (λ (k : Code). k .code) ks → among c ks ≡ none → nameIn ns c ≡ []
+unfolding nameIn among
+alike c [] ks e h = refl
+alike c (n ∷ ns) [] e h = impossible (cc)
+alike c (n ∷ ns) (k ∷ ks) e h =
+    let q : n .code ≡ k .code = cc in
+    let r : map (λ (n : Name). n .code) ns ≡ map (λ (k : Code). k .code) ks = cc in
+    rw q (go (eqb c (k .code)) (alike c ns ks r) h)
+  where
+    go : (b : Bool) → (among c ks ≡ none → nameIn ns c ≡ []) → pick b (some (k .needs)) (among c ks) ≡ none → pick b (text (n .name)) (nameIn ns c) ≡ []
+    go true more h = impossible (cc)
+    go false more h = more h
 
--- as a match leaves it: the first of its numbers innermost
-abbrev pub NoneOf : List ℕ → ℕ → Type 0
-NoneOf [] c = Unit {0}
-NoneOf (k ∷ ks) c = NoneOf ks c × (c ≡ k → ⊥)
-
-pub no-name : (c : ℕ) → (c < 0x8000) ⊎ (0x8fff < c)
-    → NoneOf (0x40 ∷ 0x0a ∷ 0x09 ∷ 0x08 ∷ 0x07 ∷ 0x06 ∷ 0x05 ∷ 0x04 ∷ 0x03 ∷ 0x02 ∷ 0x01 ∷ 0x00 ∷ []) c → kindOf c ≡ []
-unfolding kindOf nameIn names isError
-no-name c e ((((((((((((_, n0), n1), n2), n3), n4), n5), n6), n7), n8), n9), na), np) =
-    rw (
-      no-error c e,
-      ne-eqb c 0x01 n1,
-      ne-eqb c 0x02 n2,
-      ne-eqb c 0x03 n3,
-      ne-eqb c 0x04 n4,
-      ne-eqb c 0x05 n5,
-      ne-eqb c 0x06 n6,
-      ne-eqb c 0x0a na,
-      ne-eqb c 0x07 n7,
-      ne-eqb c 0x08 n8,
-      ne-eqb c 0x09 n9,
-      ne-eqb c 0x40 np,
-      ne-eqb c 0x00 n0,
-    )
+pub no-name : (c : ℕ) → required c ≡ none → kindOf c ≡ []
+unfolding kindOf required names codes
+no-name c h = go (isError c) h
+  where
+    go : (b : Bool) → pick b (some (0x31 ∷ [])) (among c codes) ≡ none → pick b (text "error") (nameIn names c) ≡ []
+    go true h = impossible (cc)
+    go false h = alike c names codes refl h

@@ -3,6 +3,7 @@ use mathlib.Core.Path.{refl, sym}
 use mathlib.Core.Logic.{⊎-elim, inl, inr}
 use native.Mathlib.Omega.{arith}
 use Rattle.frames.specs.Codes.{isError}
+use Rattle.frame_rules.proofs.Laws.{unknown-code}
 use Rattle.frame_listing_fields.specs.Names.{names, nameIn, kindOf}
 use Rattle.frame_listing_fields.proofs.Names.{error-name, no-name}
 use Rattle.frame_listing_fields.proofs.kind_of.Statement.{statement}
@@ -11,7 +12,7 @@ use Rattle.frame_listing_fields.proofs.kind_of.Tie as tie
 returns-14 : tie.Need-returns-14
 returns-14 c =
     let i = c .before .before in
-    (sym (no-name _ (⊎-elim (λ w. inl (w .taken)) (λ w. inr (w .1 .left)) (i .if1 .came)) (i .before .match .rest)), omega arith)
+    (sym (no-name _ (unknown-code _ (⊎-elim (λ w. inl (w .taken)) (λ w. inr (w .1 .left)) (i .if1 .came)) (i .before .match .rest))), omega arith)
 
 pub kind-of-spec : {M : Type 1} → statement M
 unfolding kindOf isError nameIn names
