@@ -1,11 +1,10 @@
 -- 1 to 5: the size number, the header and the body. Assumes nothing.
-use mathlib.Core.Path.{_≡_, refl, sym, _∙_}
-use mathlib.Core.List.{[], _∷_}
-use mathlib.Core.Bool.{Bool, true, false, _&&_}
-use Prim.Native.Nat.{ℕ, suc, _+_, _-_, _<_, _≤_}
+use mathlib.Core.Path.{_≡_, refl, sym, subst, _∙_}
+use mathlib.Core.Bool.{Bool, true, false}
+use Prim.Native.Nat.{ℕ, _+_, _-_, _<_, _≤_}
 use native.Mathlib.Omega.{arith}
-use borrow.Author.Tests.{le-leb, lt-leb, eq-eqb, ne-eqb, leb-true, ltb-true, ltb-false}
-use lib.Dec.{leb, ltb, eqb}
+use borrow.Author.Tests.{le-leb, lt-leb, eq-eqb, ne-eqb, ltb-true, ltb-false}
+use lib.Dec.{ltb, eqb}
 use lib.ListN.{length, take, drop, length-drop, drop-of-length-le}
 use lib.Seq.{drop-cons}
 use Rattle.msgpack_first_bytes.specs.Bytes.{Bytes, pick}
@@ -13,21 +12,14 @@ use Rattle.msgpack_values.specs.Value.{shift, value}
 use Rattle.msgpack_values.specs.declared.Read.{Read}
 use Rattle.msgpack_values.specs.declared.Read.the-variants.{Whole, Broken}
 use Rattle.msgpack_values.proofs.Local.{shift-whole, value-good, value-pos}
-use Rattle.msgpack_first_bytes.specs.FirstByte.{formOf}
-use Rattle.msgpack_first_bytes.specs.declared.Kind.the-variants.{Unsigned}
 use Rattle.msgpack_first_bytes.proofs.Logic.{impossible}
-use Rattle.msgpack_scalars.specs.Start.{scalarOf}
-use Rattle.msgpack_scalars.specs.Integer.{dueIn, due, unsignedBy, unsigned}
-use Rattle.msgpack_scalars.specs.declared.Start.{Start}
-use Rattle.msgpack_scalars.specs.declared.Start.the-variants.{Here, Elsewhere}
-use Rattle.msgpack_scalars.specs.declared.Due.the-variants.{More, Cut as CutDue}
-use Rattle.msgpack_scalars.specs.declared.Natural.{Natural}
-use Rattle.msgpack_scalars.specs.declared.Natural.the-variants.{Is, Cut, Other}
+use Rattle.msgpack_scalars.specs.declared.Natural.the-variants.{Is}
 use Rattle.frames.specs.declared.FrameAnswer.{FrameAnswer}
 use Rattle.frames.specs.declared.Size.the-variants.{Promises, Refused}
 use Rattle.frames.specs.Limits.{maxSize, maxDepth, heldDepth}
 use Rattle.frames.specs.Maps.{entriesAt}
 use Rattle.frames.specs.Cascade.{check, whole}
+use Rattle.frames.proofs.Sizes.{Told, size-told}
 use Rattle.frames.specs.Reading.{refuse, byEntries, bodyValue, bodyEntries, inFrame, sizeBy, sizeOf, bySize, frameRead}
 use Rattle.frame_reading.specs.Steps.{bodyAt, entriesIn}
 use Rattle.frame_reading.specs.declared.Body.the-variants.{At, Missing}
@@ -127,12 +119,12 @@ module _ (s : Bytes) (at : ℕ) where
 
 -- ---- the size number
 
-pub size-none : {n : ℕ} (k : ℕ) → n ≡ 0 → Refused 3 ≡ sizeBy (Is n k)
+pub size-none : {n : ℕ} (k : ℕ) → n ≡ 0 → Refused 3 k ≡ sizeBy (Is n k)
 unfolding sizeBy
 size-none k h = rw h
 
 module _ (n k : ℕ) where
-  pub size-large : maxSize < n → Refused 3 ≡ sizeBy (Is n k)
+  pub size-large : maxSize < n → Refused 3 k ≡ sizeBy (Is n k)
   unfolding sizeBy
   size-large h = rw (le-leb 1 n (omega arith), lt-leb n maxSize h)
 
@@ -140,40 +132,16 @@ module _ (n k : ℕ) where
   unfolding sizeBy
   size-is z h = rw (le-leb 1 n (omega arith), le-leb n maxSize h)
 
--- a number that was read is within the bytes
-number-inside : (s : Bytes) (n k : ℕ) → unsigned s ≡ Is n k → k ≤ length s
-unfolding unsigned unsignedBy due dueIn
-number-inside [] n k e = impossible cc
-number-inside (b ∷ t) n k e = by-start (scalarOf Unsigned (formOf b)) e
-  where
-    by-length : (f : ℕ) (c : Bool) → leb f (length t) ≡ c → unsignedBy (pick c (More f) CutDue) (b ∷ t) ≡ Is n k → k ≤ suc (length t)
-    by-length f true q e = let z : 1 + f ≡ k = cc in let l = leb-true f (length t) q in omega arith
-    by-length f false q e = impossible cc
-
-    by-start : (x : Start) → unsignedBy (dueIn x t) (b ∷ t) ≡ Is n k → k ≤ suc (length t)
-    by-start (Here w f) e = by-length f (leb f (length t)) refl e
-    by-start Elsewhere e = impossible cc
-
 -- ---- the frame
 
 module _ (s : Bytes) where
-  pub frame-refused : (n : ℕ) → Refused n ≡ sizeOf s → refuse n ≡ frameRead s
+  pub frame-refused : (n k : ℕ) → Refused n k ≡ sizeOf s → refuse n ≡ frameRead s
   unfolding frameRead bySize
-  frame-refused n e = rw (← e)
+  frame-refused n k e = rw (← e)
 
   module _ (n k : ℕ) (e : Promises n k ≡ sizeOf s) where
     pub size-fits : k ≤ length s
-    unfolding sizeOf sizeBy
-    size-fits = go (unsigned s) refl e
-      where
-        pick-fits : (b : Bool) (m l : ℕ) → unsigned s ≡ Is m l → Promises n k ≡ pick b (Promises m l) (Refused 3) → k ≤ length s
-        pick-fits true m l u q = let z : k ≡ l = cc in rw z (number-inside s m l u)
-        pick-fits false m l u q = impossible cc
-
-        go : (u : Natural) → unsigned s ≡ u → Promises n k ≡ sizeBy u → k ≤ length s
-        go (Is m l) u q = pick-fits (leb 1 m && leb m maxSize) m l u q
-        go Cut u q = impossible cc
-        go Other u q = impossible cc
+    size-fits = let t : Told s (Promises n k) = subst (Told s) (sym e) (size-told s) in t .1 .inside
 
     pub not-all-come : length s - k < n → refuse 1 ≡ frameRead s
     unfolding frameRead bySize check

@@ -27,19 +27,19 @@ pub fn read_size(s: &[u8]) -> Size
     match msgpack_scalars::unsigned_at(s, 0) {
         Natural::Is(n, from) => {
             if n == 0 {
-                return Size::Refused(3);
+                return Size::Refused(3, from);
             }
             if (frames::MAX_SIZE as u64) < n {
-                return Size::Refused(3);
+                return Size::Refused(3, from);
             }
             Size::Promises(n as usize, from)
         }
-        Natural::Cut => Size::Refused(1),
-        Natural::Other => Size::Refused(2),
+        Natural::Cut => Size::Refused(1, 0),
+        Natural::Other => Size::Refused(2, 1),
     }
 }
 
-fn empty_frame() -> Frame
+pub fn empty_frame() -> Frame
     ensures { λ r. ⌜ r ≡ emptyFrame ⌝ }
 {
     let number = OptionalNumber {
@@ -72,7 +72,7 @@ fn empty_frame() -> Frame
     }
 }
 
-fn refused(number: u32) -> FrameAnswer
+pub fn refused(number: u32) -> FrameAnswer
     ensures { λ r. ⌜ r ≡ refuse number ⌝ }
 {
     FrameAnswer {
@@ -189,7 +189,7 @@ pub fn read_frame(s: &[u8]) -> FrameAnswer
     ensures { λ r. ⌜ r ≡ frameRead (now (s .entry)) ⌝ }
 {
     match read_size(s) {
-        Size::Refused(number) => refused(number),
+        Size::Refused(number, _) => refused(number),
         Size::Promises(size, from) => {
             if s.len() - from < size {
                 return refused(1);

@@ -72,18 +72,18 @@ inFrame s at =
     check (refuse 5) (eqb (at + h + b) (length s))
     (byEntries s (entriesAt heldDepth s at) (bodyEntries s (at + h) (drop (at + h) s)))))
 
--- 2, 1 and 3 for the size number
+-- 2, 1 and 3 for the size number, each with how many bytes settle it: the first alone, none yet, all of the number
 unfoldable pub sizeBy : Natural → Size
-sizeBy Other = Refused 2
-sizeBy Cut = Refused 1
-sizeBy (Is n k) = pick (leb 1 n && leb n maxSize) (Promises n k) (Refused 3)
+sizeBy Other = Refused 2 1
+sizeBy Cut = Refused 1 0
+sizeBy (Is n k) = pick (leb 1 n && leb n maxSize) (Promises n k) (Refused 3 k)
 
 unfoldable pub sizeOf : Bytes → Size
 sizeOf s = sizeBy (unsigned s)
 
 -- 1 for the bytes that it promises. "Reading takes the first frame of the lent bytes, tells its length and judges nothing after it": the rest is cut off
 unfoldable pub bySize : Bytes → Size → FrameAnswer
-bySize s (Refused n) = refuse n
+bySize s (Refused n k) = refuse n
 bySize s (Promises n k) = check (refuse 1) (leb (k + n) (length s)) (inFrame (take (k + n) s) k)
 
 unfoldable pub frameRead : Bytes → FrameAnswer

@@ -72,10 +72,10 @@ pub struct Written {
     pub length: usize,
 }
 
-// What a size number says: so many bytes are promised from a place on, or the number of its refusal.
+// What a size number says: so many bytes are promised from a place on, or the number of its refusal and how many bytes settle that.
 pub enum Size {
     Promises(usize, usize),
-    Refused(u32),
+    Refused(u32, usize),
 }
 
 // What a known key must hold.

@@ -31,7 +31,7 @@ returns-2 : tie.Need-returns-2
 returns-2 c =
     let z = c .before .before in
     let r = z .before .before in
-    c .refused .ensures ∙ frame-refused (r .before .before .args .s .now) _ (sym (z .number .given .1) ∙ r .read-size .ensures)
+    c .refused .ensures ∙ frame-refused (r .before .before .args .s .now) _ _ (sym (z .number .given .1) ∙ r .read-size .ensures)
 
 returns-3 : tie.Need-returns-3
 returns-3 c =
