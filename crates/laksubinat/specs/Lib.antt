@@ -1,3 +1,2 @@
 -- What C sees of the answers.
 pub mod Shown
-pub mod Examples

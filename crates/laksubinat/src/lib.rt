@@ -2,112 +2,33 @@
 // header is include/laksubinat.h. A slice is a pointer and a length in C; structs go by value.
 use frames::Frame;
 use frames::FrameAnswer;
-use msgpack_meanings::Meaning;
-use msgpack_scalars::Int;
+use msgpack_shown::ValueAnswer;
+use sessions::Session;
+use sessions::SessionAnswer;
+use sessions::SessionOpening;
 use tuples::Answer;
 ghost use mathlib.Core.Path.{_≡_};
 ghost use mathlib.Core.List.{List};
 ghost use mathlib.Core.Option.{some};
 ghost use Rattle.msgpack_first_bytes.specs.Bytes.{Bytes};
 ghost use Rattle.msgpack_meanings.specs.Meaning.{alone};
+ghost use Rattle.msgpack_shown.specs.Shown.{shown};
 ghost use Rattle.frames.specs.Reading.{frameRead};
 ghost use Rattle.frames.specs.Writing.{frameWriteCall};
+ghost use Rattle.sessions.specs.Session.{fresh, opening, feedOf, carryOf};
+ghost use Rattle.sessions.specs.Cutting.{EveryCutting};
 ghost use Rattle.tuples.specs.Tuple.{Fields, fieldsOf};
 ghost use Rattle.tuples.specs.Call.{updateCall, undoCall};
 ghost use Rattle.tuples.specs.Sequence.{Event, Demand3};
 ghost use Rattle.answers.specs.Seen.{seen};
-ghost use Rattle.laksubinat.specs.Shown.{bit, byBits, byPlace, integerShown, meaningShown, shown, result};
-
-// The answer for a value read alone, as C sees it: 0 with its kind, length and content, or 4 and else 0.
-#[repr(C)]
-pub struct ValueAnswer {
-    pub number: u32,
-    pub kind: u32,
-    pub length: usize,
-    pub bits: u64,
-    pub start: usize,
-    pub size: usize,
-    pub ext_type: u8,
-}
-
-fn bit(b: bool) -> u64
-    ensures { λ r. ⌜ r ≡ bit b ⌝ }
-{
-    if b { 1 } else { 0 }
-}
-
-// A value that is told by its bits.
-fn by_bits(number: u32, length: usize, kind: u32, bits: u64) -> ValueAnswer
-    ensures { λ r. ⌜ r ≡ byBits number length kind bits ⌝ }
-{
-    ValueAnswer {
-        number,
-        kind,
-        length,
-        bits,
-        start: 0,
-        size: 0,
-        ext_type: 0,
-    }
-}
-
-// A value that is told by the place of its content.
-fn by_place(
-    number: u32,
-    length: usize,
-    kind: u32,
-    start: usize,
-    size: usize,
-    ext_type: u8,
-) -> ValueAnswer
-    ensures { λ r. ⌜ r ≡ byPlace number length kind start size «ext_type» ⌝ }
-{
-    ValueAnswer {
-        number,
-        kind,
-        length,
-        bits: 0,
-        start,
-        size,
-        ext_type,
-    }
-}
-
-fn integer_shown(number: u32, length: usize, z: Int) -> ValueAnswer
-    ensures { λ r. ⌜ r ≡ integerShown number length z ⌝ }
-{
-    match z {
-        Int::FromZero(n) => by_bits(number, length, 2, n),
-        Int::BelowZero(m) => by_bits(number, length, 3, 0xffff_ffff_ffff_ffff - m),
-    }
-}
-
-fn meaning_shown(number: u32, length: usize, meaning: Meaning) -> ValueAnswer
-    ensures { λ r. ⌜ r ≡ meaningShown number length meaning ⌝ }
-{
-    match meaning {
-        Meaning::Absent => by_bits(number, length, 0, 0),
-        Meaning::Nil => by_bits(number, length, 0, 0),
-        Meaning::Boolean(b) => by_bits(number, length, 1, bit(b)),
-        Meaning::Integer(z) => integer_shown(number, length, z),
-        Meaning::Float32(_, bits) => by_bits(number, length, 4, bits as u64),
-        Meaning::Float64(_, bits) => by_bits(number, length, 5, bits),
-        Meaning::String(start, size) => by_place(number, length, 6, start, size, 0),
-        Meaning::Bin(start, size) => by_place(number, length, 7, start, size, 0),
-        Meaning::Ext(t, start, size) => by_place(number, length, 8, start, size, t),
-        Meaning::Array(start, size) => by_place(number, length, 9, start, size, 0),
-        Meaning::Map(start, size) => by_place(number, length, 10, start, size, 0),
-    }
-}
+ghost use Rattle.laksubinat.specs.Shown.{result};
 
 // The value at the front of `bytes`, held to depth 16; nothing past its end is judged.
 #[no_mangle]
 pub extern "C" fn lak_value_read(bytes: &[u8]) -> ValueAnswer
     ensures { λ r. ⌜ r ≡ shown (alone (now (bytes .entry))) ⌝ }
 {
-    let read = msgpack_meanings::read_alone(bytes);
-    let meaning = read.meaning;
-    meaning_shown(read.number, read.length, meaning)
+    msgpack_shown::read_shown(bytes)
 }
 
 // The first frame of `bytes`; what follows it is not judged.
@@ -131,6 +52,35 @@ pub extern "C" fn lak_frame_write(frame: Frame, bytes: &[u8], out: &mut [u8]) ->
     }
 }
 
+// A session over this carry buffer, or 19.
+#[no_mangle]
+pub extern "C" fn lak_session_open(carry: &[u8]) -> SessionOpening
+    ensures { λ r. ⌜ r ≡ opening (now (carry .entry)) ⌝ }
+{
+    session_feeding::open(carry)
+}
+
+// A session begun anew.
+#[no_mangle]
+pub extern "C" fn lak_session_reset() -> Session
+    ensures { λ r. ⌜ r ≡ fresh ⌝ }
+{
+    session_feeding::reset()
+}
+
+// 19, the refusal again, or the next frame, as far as the piece has it; what is begun is kept in `carry`.
+#[no_mangle]
+pub extern "C" fn lak_session_feed(
+    session: Session,
+    piece: &[u8],
+    carry: &mut [u8],
+) -> SessionAnswer
+    ensures { λ r. ⌜ (r ≡ feedOf session (now (piece .entry)) (now (carry .entry)))
+        × (now (carry .exit) ≡ carryOf session (now (piece .entry)) (now (carry .entry))) ⌝ }
+{
+    session_feeding::feed(session, piece, carry)
+}
+
 // The list's operations on the tuple; the new tuple into `out`.
 #[no_mangle]
 pub extern "C" fn lak_update(tuple: &[u8], list: &[u8], index_base: u64, out: &mut [u8]) -> Answer
@@ -151,4 +101,10 @@ pub extern "C" fn lak_undo(tuple: &[u8], list: &[u8], index_base: u64, out: &mut
 // sequence of updates and takings back, what is taken back is the plain form of what was given.
 pub fn demand_3()
     ensures { λ _. ⌜ ((t : Bytes) (fs : Fields) (es : List Event) → fieldsOf t ≡ some fs → Demand3 t fs es) ⌝ }
+{}
+
+// Of `lak_session_feed`, whose answer is `feedOf` and whose carry buffer is `carryOf`: all ways of cutting the
+// same bytes show the frames, and the refusal, that the uncut bytes show; so any two agree (`sessions::any_two_cuttings_agree`).
+pub fn every_cutting_shows_the_same()
+    ensures { λ _. ⌜ EveryCutting ⌝ }
 {}

@@ -1,8 +1,8 @@
 -- By each sign. Assumes nothing.
-use Rattle.laksubinat.specs.Shown.{integerShown}
+use Rattle.msgpack_shown.specs.Shown.{integerShown}
 use borrow.Author.Needs.{needs}
-use Rattle.laksubinat.proofs.integer_shown.Statement.{statement}
-use Rattle.laksubinat.proofs.integer_shown.Tie as tie
+use Rattle.msgpack_shown.proofs.integer_shown.Statement.{statement}
+use Rattle.msgpack_shown.proofs.integer_shown.Tie as tie
 
 pub integer-shown-spec : {M : Type 1} → statement M
 integer-shown-spec =

@@ -1,8 +1,8 @@
 -- By each meaning. Assumes nothing.
-use Rattle.laksubinat.specs.Shown.{meaningShown}
+use Rattle.msgpack_shown.specs.Shown.{meaningShown}
 use borrow.Author.Needs.{needs}
-use Rattle.laksubinat.proofs.meaning_shown.Statement.{statement}
-use Rattle.laksubinat.proofs.meaning_shown.Tie as tie
+use Rattle.msgpack_shown.proofs.meaning_shown.Statement.{statement}
+use Rattle.msgpack_shown.proofs.meaning_shown.Tie as tie
 
 pub meaning-shown-spec : {M : Type 1} → statement M
 meaning-shown-spec =

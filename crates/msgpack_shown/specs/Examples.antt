@@ -1,5 +1,4 @@
 -- Worked cases of a value read alone as C sees it, computed as one statement over a table.
-use Prim.Native.Nat.{ℕ}
 use mathlib.Core.List.{List, [], _∷_, _++_, map}
 use mathlib.Core.Path.{_≡_, refl}
 use lib.ListN.{replicate}
@@ -9,8 +8,8 @@ use Rattle.msgpack_numbers.specs.Number.{number}
 use Rattle.msgpack_values.specs.Value.{value, one, container, tooDeep, byForm, items, sized, payload}
 use Rattle.msgpack_scalars.specs.Integer.{dueIn, due, naturalOf, unsignedBy, unsigned, twosComplement, signedOf, signedBy, signed, adding, integer}
 use Rattle.msgpack_meanings.specs.Meaning.{ofInteger, ofFloat32, ofFloat64, scalarMeaning, meaning, aloneBy, alone}
-use Rattle.laksubinat.specs.declared.ValueAnswer.{ValueAnswer}
-use Rattle.laksubinat.specs.Shown.{byBits, byPlace, bit, integerShown, meaningShown, shown}
+use Rattle.msgpack_shown.specs.declared.ValueAnswer.{ValueAnswer}
+use Rattle.msgpack_shown.specs.Shown.{byBits, byPlace, bit, integerShown, meaningShown, shown}
 
 record Case : Type 0 where
   bytes : Bytes

@@ -1,0 +1,3 @@
+-- A value read alone as C sees it.
+pub mod Shown
+pub mod Examples

@@ -1,0 +1,2 @@
+-- The laws of feeding. Assumes nothing.
+pub mod Steps
