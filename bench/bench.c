@@ -13,6 +13,7 @@ enum { KIB = 1024 };
 
 static struct sample sample;
 static struct frame_input frame;
+static struct line_input line;
 static struct update_input update;
 
 /* A comparison of calls that do not do the same would say nothing. */
@@ -138,6 +139,41 @@ static void frames_table(void)
     frame_row("an answer, 450 tuples");
 }
 
+/* ---- sessions ---- */
+
+/* A frame of about the greatest length, of which so many bytes come at once. */
+static void session_row(const char *name, size_t piece)
+{
+    load_frame(name);
+    line.bytes = &sample;
+    line.piece = piece;
+    struct contender c[2] = {
+        { lak_feeding, &line, 0, 0 },
+        { lak_frame_reading, &frame, 0, 0 },
+    };
+    size_t feeds = (sample.n + piece - 1) / piece;
+    demand(lak_feeding(&line) == sample.n, name);
+    race(c, 2);
+    printf("%-20s %6zu %6zu", name, sample.n, feeds);
+    print_ns(&c[0]);
+    printf(" %9.1f %9.3f", c[0].ns / feeds, c[0].ns / sample.n);
+    print_against(&c[0], &c[1]);
+    printf("\n");
+}
+
+static void sessions_table(void)
+{
+    printf("\nSessions: one frame fed to its end by lak_session_feed; beside it lak_frame_read of the frame "
+           "whole\n");
+    printf("%-20s %6s %6s %9s %9s %9s %9s %6s\n", "", "bytes", "feeds", "ns", "ns/feed", "ns/byte", "read ns",
+           "ratio");
+    ok_frame_sample(&sample, 511);
+    session_row("pieces of 1", 1);
+    session_row("pieces of 40", 40);
+    session_row("pieces of 1,500", 1500);
+    session_row("whole", sample.n);
+}
+
 /* ---- updates ---- */
 
 static void load_update(size_t bytes, size_t operations)
@@ -241,6 +277,18 @@ static void frames_growth(const char *name, bench_work work)
     printf("\n");
 }
 
+static void line_growth(const char *name, size_t piece)
+{
+    printf("%-40s", name);
+    for (size_t times = 1; times <= 16; times *= 4) {
+        ok_frame_sample(&sample, 28 * times);
+        line.bytes = &sample;
+        line.piece = piece;
+        growth_cell(sample.n, alone(lak_feeding, &line));
+    }
+    printf("\n");
+}
+
 static void tuple_growth(const char *name, bench_work work, size_t operations)
 {
     printf("%-40s", name);
@@ -269,6 +317,8 @@ static void growth_table(void)
     values_growth("values: small integers", integers_sample, 4000);
     frames_growth("frames read: an answer", lak_frame_reading);
     frames_growth("frames written: an answer", lak_frame_writing);
+    line_growth("frames fed in pieces of 1: an answer", 1);
+    line_growth("frames fed in pieces of 40: an answer", 40);
     tuple_growth("update, 1 operation, by tuple", lak_updating, 1);
     tuple_growth("update, 16 operations, by tuple", lak_updating, 16);
     tuple_growth("undo, 16 operations, by tuple", lak_undoing, 16);
@@ -292,6 +342,11 @@ static void stack_table(void)
     load_frame("a deep frame");
     stack_row("lak_frame_read", "a value 15 deep", lak_frame_reading, &frame);
     stack_row("lak_frame_write", "a value 15 deep", lak_frame_writing, &frame);
+    line.bytes = &sample;
+    line.piece = sample.n - 1;
+    stack_row("lak_session_open", "a carry buffer of 60,009 bytes", lak_opening, &line);
+    stack_row("lak_session_reset", "no input", lak_resetting, &line);
+    stack_row("lak_session_feed", "a value 15 deep, its last byte in a second piece", lak_feeding, &line);
     deep_tuple_sample(&update.tuple, 16 * KIB);
     deep_list_sample(&update.list, 64);
     check_updates();
@@ -303,6 +358,7 @@ int main(int argc, char **argv)
 {
     values_table();
     frames_table();
+    sessions_table();
     updates_table(argc > 1 ? argv[1] : NULL);
     growth_table();
     stack_table();

@@ -81,6 +81,35 @@ uint64_t msgpuck_frame(void *frame_input)
     return msgpuck_values(f->bytes);
 }
 
+uint64_t lak_feeding(void *line_input)
+{
+    struct line_input *l = line_input;
+    const struct sample *s = l->bytes;
+    lak_session session = lak_session_reset();
+    size_t at = 0;
+    while (at < s->n) {
+        size_t n = s->n - at < l->piece ? s->n - at : l->piece;
+        lak_session_answer a = lak_session_feed(session, s->bytes + at, n, l->carry, sizeof l->carry);
+        if (a.number > LAK_INCOMPLETE)
+            return 0;
+        session = a.session;
+        at += a.taken;
+    }
+    return session.offset;
+}
+
+uint64_t lak_opening(void *line_input)
+{
+    struct line_input *l = line_input;
+    return lak_session_open(l->carry, sizeof l->carry).number;
+}
+
+uint64_t lak_resetting(void *line_input)
+{
+    struct line_input *l = line_input;
+    return lak_session_reset().offset + l->piece;
+}
+
 uint64_t lak_updating(void *update_input)
 {
     struct update_input *u = update_input;

@@ -22,6 +22,17 @@ uint64_t lak_frame_writing(void *frame_input);
 /* The same bytes as values: what a reader that only checks them would take. */
 uint64_t msgpuck_frame(void *frame_input);
 
+/* A line: its bytes, and how many come at once. */
+struct line_input {
+    struct sample *bytes;
+    size_t piece;
+    uint8_t carry[LAK_CARRY_ROOM];
+};
+/* Fed to its end: the length of the frames answered. */
+uint64_t lak_feeding(void *line_input);
+uint64_t lak_opening(void *line_input);
+uint64_t lak_resetting(void *line_input);
+
 /* A tuple and a list of operations on it. */
 struct update_input {
     struct sample tuple, list;

@@ -1,5 +1,5 @@
-/* One call again and again, for a profiler: one CALL SAMPLE TIMES. A sample of updates is BYTESxOPERATIONS.
- */
+/* One call again and again, for a profiler: one CALL SAMPLE TIMES. A sample of updates is BYTESxOPERATIONS,
+ * one of feeds the length of the pieces. */
 #include <stdio.h>
 #include <stdlib.h>
 #include <string.h>
@@ -8,6 +8,7 @@
 
 static struct sample sample;
 static struct frame_input frame;
+static struct line_input line;
 static struct update_input update;
 
 static int make_values(const char *name)
@@ -40,6 +41,14 @@ static int make_frame(const char *name)
     return 1;
 }
 
+static int make_line(const char *name)
+{
+    line.bytes = &sample;
+    line.piece = (size_t)atol(name);
+    ok_frame_sample(&sample, 511);
+    return line.piece > 0;
+}
+
 static int make_update(const char *name)
 {
     size_t bytes, operations;
@@ -65,6 +74,7 @@ int main(int argc, char **argv)
         { "mp_check", msgpuck_values, &sample, make_values },
         { "read", lak_frame_reading, &frame, make_frame },
         { "write", lak_frame_writing, &frame, make_frame },
+        { "feed", lak_feeding, &line, make_line },
         { "update", lak_updating, &update, make_update },
         { "undo", lak_undoing, &update, make_update },
         { "plain-update", plain_updating, &update, make_update },

@@ -1,20 +1,22 @@
 /*
- * laksubinat.h: Tarantool's frames and MessagePack values read and written, tuples updated, and
- * updates taken back. Link target/staticlib/liblaksubinat.a (`rt staticlib laksubinat`), for
- * x86-64 Linux. Valid C99 and C++11.
+ * laksubinat.h: Tarantool's frames and MessagePack values read and written, frames taken as a line
+ * delivers them, tuples updated, and updates taken back. Link target/staticlib/liblaksubinat.a
+ * (`rt staticlib laksubinat`), for x86-64 Linux. Valid C99 and C++11.
  *
  * What holds of every call, for all bytes, however damaged:
  *   - It ends and answers. `number` is 0 (LAK_OK), or the number of the one refusal that is due.
  *   - Refused: everything else in the answer is 0 and `out` keeps its bytes. Only 13 to 16 also
- *     give `operation`, the index from 0 of the operation that was refused.
+ *     give `operation`, the index from 0 of the operation that was refused. A feed's answer has
+ *     more, and its carry buffer one change: see lak_session_feed.
  *   - Accepted: `length` bytes were written or read. Bytes of `out` past them are unchanged.
  *   - Nothing is kept between calls, no memory is allocated, and no other memory is written; so
- *     any thread may call. Stack, measured: lak_undo 81 KB, lak_update 42 KB, lak_frame_read 6 KB;
- *     the other two less than 4 KB.
+ *     any thread may call. Stack, measured: lak_undo 81 KB, lak_update 42 KB, lak_frame_read and
+ *     lak_session_feed 7 KB; the others less than 4 KB.
  *
  * What the caller owes, since C cannot ask for it and the proofs assume it:
- *   - A pointer is valid for the length beside it: inputs to be read, `out` to be written.
- *   - `out` overlaps no input. Inputs may overlap one another.
+ *   - A pointer is valid for the length beside it: inputs to be read, `out` and a feed's `carry`
+ *     to be written.
+ *   - `out` overlaps no input, and `carry` no piece. Inputs may overlap one another.
  *   - No other thread writes the lent bytes during the call.
  *   - `present` in a frame is true or false and not another byte; memset to 0 is an empty frame.
  * With length 0 the pointer is never used: it may be NULL (tested, not proved).
@@ -50,7 +52,8 @@ enum lak_refusal {
     LAK_OUT_OF_RANGE = 15,
     LAK_TOO_LARGE = 16,
     LAK_LONG_UNDO = 17,
-    LAK_SHORT_BUFFER = 18
+    LAK_SHORT_BUFFER = 18,
+    LAK_SHORT_CARRY = 19
 };
 
 /* What a frame is: its code. An error's is any from LAK_CODE_ERROR_FIRST to LAK_CODE_ERROR_LAST. */
@@ -89,6 +92,9 @@ enum lak_kind {
 /* The longest that each call writes: an `out` of this size is never refused with 18. */
 enum lak_room { LAK_FRAME_ROOM = 60005, LAK_TUPLE_ROOM = 16384, LAK_UNDO_ROOM = 32768 };
 
+/* What a carry buffer has at least: the longest frame, nine bytes of size number and 60,000. */
+enum { LAK_CARRY_ROOM = 60009 };
+
 /* A number that a frame may leave out; absent it is all 0. */
 typedef struct {
     bool present;
@@ -117,6 +123,41 @@ typedef struct {
     uint64_t length;
     lak_frame frame;
 } lak_frame_answer;
+
+/* A session: what one feed leaves for the next. No call trusts it: any value is answered.
+ *   offset   the length of all frames answered since the opening or reset, going round from
+ *            2^64-1 to 0
+ *   held     how many bytes of the frame at hand stand at the carry buffer's start; of a refused
+ *            frame 0 where it began in the piece that settled it
+ *   refused  the number of the refused frame, or 0. No call leaves 1 here; any number but 0 that is
+ *            handed in is repeated as it is, with nothing taken */
+typedef struct {
+    uint64_t offset;
+    uint64_t held;
+    uint32_t refused;
+} lak_session;
+
+/* What opening a session answers. */
+typedef struct {
+    uint32_t number;
+    lak_session session;
+} lak_session_opening;
+
+/* What a feed answers.
+ *   number         0 with a frame; 1 where the frame at hand is not settled yet; else a refusal
+ *   in_carry       the frame is shown from the carry buffer's start, else from the piece's; false
+ *                  where `number` is not 0
+ *   taken          how many bytes of the piece were taken, refused or not
+ *   offset         where the frame at hand begins, refused or not
+ *   length, frame  as lak_frame_read gives them; places count from the shown frame's first byte
+ *   session        for the next feed */
+typedef struct {
+    uint32_t number;
+    bool in_carry;
+    uint64_t taken, offset, length;
+    lak_frame frame;
+    lak_session session;
+} lak_session_answer;
 
 /* What writing answers: the length written. */
 typedef struct {
@@ -153,6 +194,30 @@ lak_frame_answer lak_frame_read(const uint8_t *bytes, size_t n);
 /* The record's frame into `out`; its places are in `bytes`. Refuses: 8, 4, 9, 10, 3, 18. */
 lak_answer lak_frame_write(lak_frame frame, const uint8_t *bytes, size_t n, uint8_t *out, size_t room);
 
+/* A session over this carry buffer, which keeps its bytes. Refuses: 19. */
+lak_session_opening lak_session_open(const uint8_t *carry, size_t room);
+
+/* A session begun anew: it drops the begun frame and the refusal, and its offset is 0. */
+lak_session lak_session_reset(void);
+
+/* The next frame, one at most; what is not `taken` of the piece begins the next piece. Refuses: 19,
+ * then the refused frame's number again, then 2, 1, 3, 1, 4 to 10 as lak_frame_read on the begun
+ * frame and the piece together.
+ *   - 1: the whole piece is taken, also one of no bytes, and put after the `held` bytes of `carry`.
+ *   - A frame that lies whole in the piece is shown there, and `carry` keeps its bytes. Of one begun
+ *     earlier the missing bytes are put into `carry`, and it is shown from there.
+ *   - A refused frame is taken up to the byte that settles it: the first for 2, the size number's
+ *     last for 3, else the frame's last. Those of one begun earlier stand at the start of `carry`.
+ *   - After a refused frame each feed repeats its number and offset, and takes and changes nothing
+ *     until a reset. 19 too takes and changes nothing: the session comes back as it was.
+ * The rest of `carry` keeps its bytes. A frame shown from `carry` stays good until the next feed, one
+ * shown in the piece as long as the piece. However a line's bytes are cut into pieces from an opening
+ * or reset on, until all are taken or a frame is refused, the frames, the refusal and their offsets
+ * are the same: for this each feed is given the session that the last one left, a piece from the
+ * first byte not yet taken, and `carry` as the last feed left it. Beside what every call asks of its
+ * caller nothing is asked, and nothing is trusted. */
+lak_session_answer lak_session_feed(lak_session session, const uint8_t *piece, size_t n, uint8_t *carry, size_t room);
+
 /* The list's operations on the tuple, left to right; the new tuple into `out`. Field numbers count
  * from `index_base`, 0 or 1. Refuses: 11, 12, then for each operation 13, 14, 15, 16; then 18. */
 lak_answer lak_update(const uint8_t *tuple, size_t n, const uint8_t *list, size_t m, uint64_t index_base, uint8_t *out,
@@ -187,8 +252,16 @@ static inline const char *lak_words(uint32_t number)
         "more than 64 fields or 16,384 bytes after an operation",
         "the undo list is above 64 operations or 32,768 bytes",
         "the lent buffer is too short",
+        "the carry buffer is under 60,009 bytes",
     };
     return number < sizeof words / sizeof words[0] ? words[number] : "no such number";
+}
+
+/* The first byte of the frame that a feed shows, given what that feed was given. */
+static inline const uint8_t *lak_session_shown(const lak_session_answer *answer, const uint8_t *piece,
+                                               const uint8_t *carry)
+{
+    return answer->in_carry ? carry : piece;
 }
 
 #ifdef __cplusplus

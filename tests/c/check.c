@@ -1,13 +1,9 @@
-/* The header against the library: layouts, all five calls on document 01's examples, every refusal
- * and its words. Valid C99 and C++11; the last line is `N passed, M failed`. */
-#include <stdio.h>
-#include <string.h>
-
-#include "laksubinat.h"
+/* The header against the library: layouts, the calls that read, write and update on document 01's
+ * examples, every refusal and its words; sessions.c has the sessions. Valid C99 and C++11; the last
+ * line is `N passed, M failed`. */
+#include "testing.h"
 
 /* ---- layouts, which C and C++ check while compiling */
-
-#define HOLDS(name, fact) typedef char holds_##name[(fact) ? 1 : -1]
 
 HOLDS(size_t, sizeof(size_t) == 8);
 HOLDS(number, sizeof(lak_number) == 16 && offsetof(lak_number, value) == 8);
@@ -23,36 +19,8 @@ HOLDS(ext_type, sizeof(((lak_value_answer *)0)->ext_type) == 1);
 
 /* ---- help */
 
-typedef struct {
-    uint8_t at[70000];
-    size_t n;
-} bytes;
-
-static int passed, failed;
 static bytes first, second, wanted;
 static uint8_t out[70000];
-
-static void expect(bool holds, const char *call, const char *what)
-{
-    if (holds)
-        passed++;
-    else {
-        failed++;
-        printf("FAILED: %s: %s\n", call, what);
-    }
-}
-
-/* The bytes of pairs of hexadecimal digits with gaps. */
-static void hex(bytes *b, const char *text)
-{
-    unsigned byte;
-    int used;
-    b->n = 0;
-    while (sscanf(text, "%2x%n", &byte, &used) == 1) {
-        b->at[b->n++] = (uint8_t)byte;
-        text += used;
-    }
-}
 
 static void fresh(void)
 {
@@ -205,25 +173,6 @@ static lak_frame empty_frame(void)
     lak_frame f;
     memset(&f, 0, sizeof f);
     return f;
-}
-
-static bool no_number(lak_number n)
-{
-    return !n.present && n.value == 0;
-}
-
-static bool no_place(lak_place p)
-{
-    return !p.present && p.start == 0 && p.length == 0;
-}
-
-/* Field by field, since the bytes between fields may be anything. */
-static bool is_empty(lak_frame f)
-{
-    return f.code == 0 && no_number(f.sync) && no_number(f.schema_version) && no_number(f.space) &&
-           no_number(f.index) && no_number(f.limit) && no_number(f.offset) && no_number(f.iterator) &&
-           no_number(f.index_base) && no_place(f.key) && no_place(f.tuple) && no_place(f.function) &&
-           no_place(f.user) && no_place(f.expression) && no_place(f.ops) && no_place(f.data) && no_place(f.error);
 }
 
 static void check_refused_frames(void)
@@ -499,15 +448,17 @@ static void check_null(void)
 static void check_words(void)
 {
     uint32_t i, j;
-    for (i = LAK_OK; i <= LAK_SHORT_BUFFER; i++) {
+    for (i = LAK_OK; i <= LAK_SHORT_CARRY; i++) {
         bool own = lak_words(i)[0] != 0;
-        for (j = LAK_OK; j <= LAK_SHORT_BUFFER + 1; j++)
+        for (j = LAK_OK; j <= LAK_SHORT_CARRY + 1; j++)
             own = own && (i == j || strcmp(lak_words(i), lak_words(j)) != 0);
         expect(own, "lak_words", lak_words(i));
     }
     expect(strcmp(lak_words(LAK_OK), "accepted") == 0, "lak_words", "0");
     expect(strcmp(lak_words(LAK_SHORT_BUFFER), "the lent buffer is too short") == 0, "lak_words", "18");
-    expect(strcmp(lak_words(UINT32_MAX), "no such number") == 0, "lak_words", "past 18");
+    expect(strcmp(lak_words(LAK_SHORT_CARRY), "the carry buffer is under 60,009 bytes") == 0, "lak_words", "19");
+    expect(strcmp(lak_words(LAK_SHORT_CARRY + 1), "no such number") == 0, "lak_words", "20");
+    expect(strcmp(lak_words(UINT32_MAX), "no such number") == 0, "lak_words", "past 19");
 }
 
 int main(void)

@@ -1,9 +1,11 @@
-//! Tarantool frames read and written, tuples updated, and the undo lists of those updates: safe functions over the
-//! static library `liblaksubinat.a`, whose every call is proved to end and answer on all input.
+//! Tarantool frames read and written, frames taken as a line delivers them, tuples updated, and the undo lists of those
+//! updates: safe functions over the static library `liblaksubinat.a`, whose every call is proved to end and answer on
+//! all input.
 //!
 //! Slices go in; enums, structs and lengths come out. A refusal is an [`Error`] with its number, and leaves every byte
-//! of the lent buffer as it was. After an accepted call, bytes past the written length are unchanged. Nothing is kept
-//! between calls and nothing is allocated, so any thread may call; the deepest call, [`undo`], takes 81 KB of stack.
+//! of the lent buffer as it was. After an accepted call, bytes past the written length are unchanged. The functions keep
+//! nothing between calls and allocate nothing, so any thread may call; the deepest, [`undo`], takes 81 KB of stack. A
+//! [`Session`] is fed bytes as they come, and keeps a frame that is begun in a buffer of its own.
 //!
 //! A press arrives: `^` with 1 on field 0. The update writes the new tuple, the undo call writes the list that takes it
 //! back, and an update with that list gives the old bytes again:
@@ -32,10 +34,12 @@
 mod error;
 mod frame;
 pub mod raw;
+mod session;
 mod value;
 
 pub use error::Error;
 pub use frame::{Frame, Kind, Place};
+pub use session::{Frames, Session, Shown};
 pub use value::Value;
 
 /// The longest that [`write_frame`] writes: a buffer of this length is never refused with 18.
@@ -44,6 +48,8 @@ pub const FRAME_ROOM: usize = 60_005;
 pub const TUPLE_ROOM: usize = 16_384;
 /// The longest that [`undo`] writes.
 pub const UNDO_ROOM: usize = 32_768;
+/// The longest frame that is read, nine bytes of size number and 60,000: a [`Session`]'s carry buffer has this length.
+pub const CARRY_ROOM: usize = 60_009;
 
 /// Reads the value at the start of the bytes: what it means, and how many bytes it has.
 ///

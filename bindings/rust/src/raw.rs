@@ -60,6 +60,48 @@ pub struct FrameAnswer {
     pub frame: Frame,
 }
 
+/// A session: what one feed leaves for the next. No call trusts it: any value is answered.
+#[repr(C)]
+#[derive(Clone, Copy, Debug, Default, PartialEq, Eq)]
+pub struct Session {
+    /// The length of all frames answered since the opening or reset, going round from 2^64-1 to 0.
+    pub offset: u64,
+    /// How many bytes of the frame at hand stand at the carry buffer's start.
+    pub held: u64,
+    /// The number of the refused frame, or 0.
+    pub refused: u32,
+}
+
+/// The answer of [`lak_session_open`].
+#[repr(C)]
+#[derive(Clone, Copy, Debug, Default, PartialEq, Eq)]
+pub struct SessionOpening {
+    /// The refusal's number, 0 where accepted.
+    pub number: u32,
+    /// A session begun anew.
+    pub session: Session,
+}
+
+/// The answer of [`lak_session_feed`].
+#[repr(C)]
+#[derive(Clone, Copy, Debug, Default, PartialEq, Eq)]
+pub struct SessionAnswer {
+    /// 0 with a frame, 1 where the frame at hand is not settled yet, else the refusal's number.
+    pub number: u32,
+    /// The frame is shown from the carry buffer's start, else from the piece's; false where the number is not 0.
+    pub in_carry: bool,
+    /// How many bytes of the piece were taken.
+    pub taken: u64,
+    /// Where the frame at hand begins.
+    pub offset: u64,
+    /// The frame's length with its size number, 0 where the number is not 0.
+    pub length: u64,
+    /// The record, empty where the number is not 0; its places count from the shown frame's first byte.
+    pub frame: Frame,
+    /// The session for the next feed.
+    pub session: Session,
+}
+
 /// The answer of the calls that write.
 #[repr(C)]
 #[derive(Clone, Copy, Debug, Default, PartialEq, Eq)]
@@ -96,6 +138,7 @@ pub struct ValueAnswer {
 // The sizes that a C compiler gives them on x86-64.
 const _: () = assert!(size_of::<Frame>() == 328 && size_of::<FrameAnswer>() == 344);
 const _: () = assert!(size_of::<Answer>() == 16 && size_of::<ValueAnswer>() == 48);
+const _: () = assert!(size_of::<Session>() == 24 && size_of::<SessionOpening>() == 32 && size_of::<SessionAnswer>() == 384);
 
 extern "C" {
     /// Reads the value at the start of the bytes.
@@ -104,6 +147,12 @@ extern "C" {
     pub fn lak_frame_read(bytes: *const u8, n: usize) -> FrameAnswer;
     /// Writes a frame from its record and the bytes that its places refer to.
     pub fn lak_frame_write(frame: Frame, bytes: *const u8, n: usize, out: *mut u8, room: usize) -> Answer;
+    /// Opens a session over a carry buffer.
+    pub fn lak_session_open(carry: *const u8, room: usize) -> SessionOpening;
+    /// A session begun anew.
+    pub fn lak_session_reset() -> Session;
+    /// Feeds a session a piece; answers the next frame, if the piece settles it.
+    pub fn lak_session_feed(session: Session, piece: *const u8, n: usize, carry: *mut u8, room: usize) -> SessionAnswer;
     /// Writes the tuple that an update list makes of a tuple.
     pub fn lak_update(
         tuple: *const u8,

@@ -1,9 +1,9 @@
-//! The five calls, as the C interface answers them; and the three that are held against each other.
+//! The calls, as the C interface answers them; and the three that are held against each other.
 
 use crate::reference::updates::Refusal;
 use crate::reference::values::{self, Meaning, Value};
-use crate::reference::{frames, updates};
-use laksubinat::raw::{self, Answer, FrameAnswer, ValueAnswer};
+use crate::reference::{frames, sessions, updates};
+use laksubinat::raw::{self, Answer, FrameAnswer, SessionAnswer, SessionOpening, ValueAnswer};
 use laksubinat::{Error, Frame};
 
 pub trait Calls {
@@ -12,6 +12,9 @@ pub trait Calls {
     fn frame_write(&self, frame: raw::Frame, bytes: &[u8], out: &mut [u8]) -> Answer;
     fn update(&self, tuple: &[u8], list: &[u8], base: u64, out: &mut [u8]) -> Answer;
     fn undo(&self, tuple: &[u8], list: &[u8], base: u64, out: &mut [u8]) -> Answer;
+    fn session_open(&self, carry: &[u8]) -> SessionOpening;
+    fn session_reset(&self) -> raw::Session;
+    fn session_feed(&self, session: raw::Session, piece: &[u8], carry: &mut [u8]) -> SessionAnswer;
 }
 
 /// The second implementation.
@@ -49,6 +52,33 @@ impl Calls for Reference {
     fn undo(&self, tuple: &[u8], list: &[u8], base: u64, out: &mut [u8]) -> Answer {
         deliver(updates::undo(tuple, list, base), out)
     }
+
+    fn session_open(&self, carry: &[u8]) -> SessionOpening {
+        SessionOpening { number: sessions::open(carry), session: self.session_reset() }
+    }
+
+    fn session_reset(&self) -> raw::Session {
+        left(sessions::Session::default())
+    }
+
+    fn session_feed(&self, session: raw::Session, piece: &[u8], carry: &mut [u8]) -> SessionAnswer {
+        let raw::Session { offset, held, refused } = session;
+        let fed = sessions::feed(sessions::Session { offset, held, refused }, piece, carry);
+        let (frame, length) = fed.frame.map_or_else(Default::default, |(record, length)| (frame_of(&record), length));
+        SessionAnswer {
+            number: fed.number,
+            in_carry: fed.in_carry,
+            taken: fed.taken as u64,
+            offset: fed.offset,
+            length: length as u64,
+            frame,
+            session: left(fed.session),
+        }
+    }
+}
+
+fn left(session: sessions::Session) -> raw::Session {
+    raw::Session { offset: session.offset, held: session.held, refused: session.refused }
 }
 
 /// Writes the bytes into the lent buffer; 18 where it is too short.
@@ -137,7 +167,7 @@ fn record_of(mut frame: raw::Frame) -> frames::Record {
     frames::Record { code: frame.code, numbers, places }
 }
 
-// SAFETY of the five: each pointer and length are those of a slice, as the interface asks.
+// SAFETY of all: each pointer and length are those of a slice, as the interface asks.
 impl Calls for Interface {
     fn value_read(&self, bytes: &[u8]) -> ValueAnswer {
         unsafe { raw::lak_value_read(bytes.as_ptr(), bytes.len()) }
@@ -159,6 +189,18 @@ impl Calls for Interface {
     fn undo(&self, tuple: &[u8], list: &[u8], base: u64, out: &mut [u8]) -> Answer {
         let (n, m) = (tuple.len(), list.len());
         unsafe { raw::lak_undo(tuple.as_ptr(), n, list.as_ptr(), m, base, out.as_mut_ptr(), out.len()) }
+    }
+
+    fn session_open(&self, carry: &[u8]) -> SessionOpening {
+        unsafe { raw::lak_session_open(carry.as_ptr(), carry.len()) }
+    }
+
+    fn session_reset(&self) -> raw::Session {
+        unsafe { raw::lak_session_reset() }
+    }
+
+    fn session_feed(&self, session: raw::Session, piece: &[u8], carry: &mut [u8]) -> SessionAnswer {
+        unsafe { raw::lak_session_feed(session, piece.as_ptr(), piece.len(), carry.as_mut_ptr(), carry.len()) }
     }
 }
 
@@ -187,6 +229,19 @@ impl Calls for Bindings {
 
     fn undo(&self, tuple: &[u8], list: &[u8], base: u64, out: &mut [u8]) -> Answer {
         bound(laksubinat::undo(tuple, list, base, out))
+    }
+
+    // The crate's session owns its carry buffer and takes no other: `stream` compares it, and here is the interface.
+    fn session_open(&self, carry: &[u8]) -> SessionOpening {
+        Interface.session_open(carry)
+    }
+
+    fn session_reset(&self) -> raw::Session {
+        Interface.session_reset()
+    }
+
+    fn session_feed(&self, session: raw::Session, piece: &[u8], carry: &mut [u8]) -> SessionAnswer {
+        Interface.session_feed(session, piece, carry)
     }
 }
 

@@ -2,7 +2,7 @@
 
 use crate::calls::{numbers, places, Calls};
 use crate::reference::values::{self, Meaning};
-use laksubinat::raw::{self, Answer, FrameAnswer, ValueAnswer};
+use laksubinat::raw::{self, Answer, FrameAnswer, SessionAnswer, SessionOpening, ValueAnswer};
 use std::fmt;
 
 /// The inputs of an update or undo call.
@@ -14,6 +14,15 @@ pub struct Change {
     pub room: usize,
 }
 
+/// The inputs of a feed: the carry buffer has so much room, and begins with these bytes.
+#[derive(Clone)]
+pub struct Feed {
+    pub session: raw::Session,
+    pub begun: Vec<u8>,
+    pub piece: Vec<u8>,
+    pub room: usize,
+}
+
 #[derive(Clone)]
 #[allow(clippy::large_enum_variant)] // one lives at a time
 pub enum Case {
@@ -22,10 +31,12 @@ pub enum Case {
     Write { frame: raw::Frame, bytes: Vec<u8>, room: usize },
     Update(Change),
     Undo(Change),
+    Open { room: usize },
+    Feed(Feed),
 }
 
 /// The names of the calls, in the order of `Case`.
-pub const CALLS: [&str; 5] = ["value_read", "frame_read", "frame_write", "update", "undo"];
+pub const CALLS: [&str; 7] = ["value_read", "frame_read", "frame_write", "update", "undo", "session_open", "session_feed"];
 
 #[derive(Clone, Debug, PartialEq)]
 #[allow(clippy::large_enum_variant)] // one lives at a time
@@ -33,6 +44,8 @@ pub enum Reply {
     Value(ValueAnswer),
     Read(FrameAnswer),
     Written(Answer),
+    Opened(SessionOpening),
+    Fed(SessionAnswer),
 }
 
 /// A call's answer, and the lent buffer afterwards with the guards on both sides of it.
@@ -43,12 +56,12 @@ pub struct Outcome {
 }
 
 /// Bytes on each side of a lent buffer, which no call may touch.
-const GUARD: usize = 24;
+pub const GUARD: usize = 24;
 
 /// The longest room that a case may have.
 pub const MOST_ROOM: usize = 65_536;
 
-/// What lent buffers hold before a call: no two neighbours are equal.
+/// What lent buffers hold before a call, but for what a carry buffer begins with: no two neighbours are equal.
 static PATTERN: [u8; MOST_ROOM + 2 * GUARD] = {
     let mut pattern = [0; MOST_ROOM + 2 * GUARD];
     let mut at = 0;
@@ -67,24 +80,35 @@ impl Case {
             Case::Write { .. } => 2,
             Case::Update(_) => 3,
             Case::Undo(_) => 4,
+            Case::Open { .. } => 5,
+            Case::Feed(_) => 6,
         }
     }
 
-    /// Makes the call, on a buffer filled with the pattern.
+    /// How long the lent buffer is, and the bytes that it begins with.
+    fn lent(&self) -> (usize, &[u8]) {
+        match self {
+            Case::Value { .. } | Case::Read { .. } => (0, &[]),
+            Case::Write { room, .. } | Case::Open { room } => (*room, &[]),
+            Case::Update(change) | Case::Undo(change) => (change.room, &[]),
+            Case::Feed(feed) => (feed.room, &feed.begun[..feed.room.min(feed.begun.len())]),
+        }
+    }
+
+    /// Makes the call, on a buffer that is else filled with the pattern.
     pub fn run(&self, calls: &dyn Calls) -> Outcome {
-        let room = match self {
-            Case::Value { .. } | Case::Read { .. } => 0,
-            Case::Write { room, .. } => *room,
-            Case::Update(change) | Case::Undo(change) => change.room,
-        };
-        let mut buffer = PATTERN[..room + 2 * GUARD].to_vec();
+        let (room, begun) = self.lent();
+        let mut buffer = patterned(room);
         let out = &mut buffer[GUARD..GUARD + room];
+        out[..begun.len()].copy_from_slice(begun);
         let reply = match self {
             Case::Value { bytes } => Reply::Value(calls.value_read(bytes)),
             Case::Read { bytes } => Reply::Read(calls.frame_read(bytes)),
             Case::Write { frame, bytes, .. } => Reply::Written(calls.frame_write(*frame, bytes, out)),
             Case::Update(change) => Reply::Written(calls.update(&change.tuple, &change.list, change.base, out)),
             Case::Undo(change) => Reply::Written(calls.undo(&change.tuple, &change.list, change.base, out)),
+            Case::Open { .. } => Reply::Opened(calls.session_open(out)),
+            Case::Feed(feed) => Reply::Fed(calls.session_feed(feed.session, &feed.piece, out)),
         };
         Outcome { reply, buffer }
     }
@@ -94,8 +118,15 @@ impl Case {
         match self {
             Case::Value { bytes } | Case::Read { bytes } | Case::Write { bytes, .. } => vec![bytes],
             Case::Update(change) | Case::Undo(change) => vec![&mut change.tuple, &mut change.list],
+            Case::Open { .. } => vec![],
+            Case::Feed(feed) => vec![&mut feed.begun, &mut feed.piece],
         }
     }
+}
+
+/// A lent buffer of so much room with its guards, filled with the pattern.
+pub fn patterned(room: usize) -> Vec<u8> {
+    PATTERN[..room + 2 * GUARD].to_vec()
 }
 
 impl Outcome {
@@ -104,6 +135,8 @@ impl Outcome {
             Reply::Value(answer) => answer.number,
             Reply::Read(answer) => answer.number,
             Reply::Written(answer) => answer.number,
+            Reply::Opened(answer) => answer.number,
+            Reply::Fed(answer) => answer.number,
         }
     }
 
@@ -112,12 +145,20 @@ impl Outcome {
             Reply::Value(answer) => answer.length as usize,
             Reply::Read(answer) => answer.length as usize,
             Reply::Written(answer) => answer.length as usize,
+            Reply::Opened(_) => 0,
+            Reply::Fed(answer) => answer.length as usize,
         }
     }
 
     /// The bytes written, as the reference says; a library's length may be any number.
     pub fn written(&self) -> &[u8] {
         &self.buffer[GUARD..GUARD + self.length()]
+    }
+
+    /// Whether the lent buffer begins with these bytes, and the pattern follows them.
+    pub fn carries(&self, bytes: &[u8]) -> bool {
+        let (front, rest) = self.buffer[GUARD..].split_at(bytes.len());
+        front == bytes && rest == &PATTERN[GUARD + bytes.len()..self.buffer.len()]
     }
 }
 
@@ -138,6 +179,13 @@ impl fmt::Display for Change {
     }
 }
 
+impl fmt::Display for Feed {
+    fn fmt(&self, f: &mut fmt::Formatter<'_>) -> fmt::Result {
+        let Feed { session, begun, piece, room } = self;
+        write!(f, "{session:?}\ncarry buffer of {room}, begins {}\npiece {}", hex(begun), hex(piece))
+    }
+}
+
 impl fmt::Display for Case {
     fn fmt(&self, f: &mut fmt::Formatter<'_>) -> fmt::Result {
         writeln!(f, "{}", CALLS[self.call()])?;
@@ -145,6 +193,8 @@ impl fmt::Display for Case {
             Case::Value { bytes } | Case::Read { bytes } => write!(f, "bytes {}", hex(bytes)),
             Case::Write { frame, bytes, room } => write!(f, "{}\nbytes {}\nroom {room}", shown(*frame), hex(bytes)),
             Case::Update(change) | Case::Undo(change) => change.fmt(f),
+            Case::Open { room } => write!(f, "room {room}"),
+            Case::Feed(feed) => feed.fmt(f),
         }
     }
 }
@@ -156,6 +206,8 @@ impl fmt::Display for Outcome {
             Reply::Read(answer) => {
                 return write!(f, "number {}, length {}, {}", answer.number, answer.length, shown(answer.frame))
             }
+            Reply::Opened(answer) => return write!(f, "{answer:?}"),
+            Reply::Fed(answer) => return write!(f, "{}\ncarry buffer {}", fed(answer), carried(&self.buffer)),
             Reply::Written(answer) => write!(f, "{answer:?}")?,
         }
         let end = GUARD.saturating_add(self.length());
@@ -178,6 +230,19 @@ fn shown(mut frame: raw::Frame) -> String {
         words += &format!(", {key:#04x}: {} bytes from {}", place.length, place.start);
     }
     words
+}
+
+/// A feed's answer in words.
+pub fn fed(answer: &SessionAnswer) -> String {
+    let SessionAnswer { number, in_carry, taken, offset, length, frame, session } = answer;
+    let from = if *in_carry { "carry buffer" } else { "piece" };
+    format!("number {number}, {taken} taken, {length} bytes at {offset} in the {from}, {}; left {session:?}", shown(*frame))
+}
+
+/// A carry buffer with its guards: what stands before the last byte that is not the pattern's.
+pub fn carried(buffer: &[u8]) -> String {
+    let end = (0..buffer.len()).rev().find(|at| buffer[*at] != PATTERN[*at]).map_or(0, |at| at + 1);
+    hex(&buffer[GUARD.min(end)..end])
 }
 
 /// Makes the case smaller for as long as it still fails: arrays lose items, then bytes are cut out, halves first.

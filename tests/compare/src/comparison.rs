@@ -2,22 +2,24 @@
 
 use crate::calls::{self, Bindings, Calls, Interface, Reference};
 use crate::cases::{shrink, Case, Change, Outcome, Reply, CALLS, MOST_ROOM};
-use crate::generate::{changes, frames, room, values};
+use crate::generate::{changes, frames, room, sessions, values};
 use crate::random::Random;
-use crate::sequence;
+use crate::{sequence, stream};
 use laksubinat::raw;
 use std::fmt;
 
 /// How often each call gave each number, 0 for accepted.
-pub type Counts = [[u64; 19]; 5];
+pub type Counts = [[u64; 20]; 7];
 
 /// The numbers that each call can give.
-const NUMBERS: [&[usize]; 5] = [
+const NUMBERS: [&[usize]; 7] = [
     &[0, 4],
     &[0, 1, 2, 3, 4, 5, 6, 7, 8, 9, 10],
     &[0, 3, 4, 8, 9, 10, 18],
     &[0, 11, 12, 13, 14, 15, 16, 18],
     &[0, 11, 12, 13, 14, 15, 16, 17, 18],
+    &[0, 19],
+    &[0, 1, 2, 3, 4, 5, 6, 7, 8, 9, 10, 19],
 ];
 
 /// What a library did otherwise than it should.
@@ -25,9 +27,10 @@ pub struct Difference(pub String);
 
 /// The libraries that are held to the reference, and what was counted.
 pub struct Comparison<'a> {
-    libraries: Vec<(&'a str, &'a dyn Calls)>,
+    pub libraries: Vec<(&'a str, &'a dyn Calls)>,
     pub counts: Counts,
     pub sequences: sequence::Counts,
+    pub streams: stream::Counts,
 }
 
 impl Comparison<'static> {
@@ -39,13 +42,13 @@ impl Comparison<'static> {
 
 impl<'a> Comparison<'a> {
     pub fn of(libraries: Vec<(&'a str, &'a dyn Calls)>) -> Self {
-        Comparison { libraries, counts: Counts::default(), sequences: Default::default() }
+        Comparison { libraries, counts: Counts::default(), sequences: Default::default(), streams: Default::default() }
     }
 
     /// One round: a few cases of one kind, chosen by seed and round alone.
     pub fn round(&mut self, seed: u64, round: u64) -> Result<(), Difference> {
         let r = &mut Random::of_round(seed, round);
-        match r.below(10) {
+        match r.below(13) {
             0 => self.same(&Case::Value { bytes: values::lent(r) }).map(drop),
             1..=3 => self.same(&Case::Read { bytes: frames::lent(r) }).map(drop),
             4 | 5 => self.write(r),
@@ -54,7 +57,10 @@ impl<'a> Comparison<'a> {
                 self.roomy(r, Case::Undo(change.clone()))?;
                 self.roomy(r, Case::Update(change)).map(drop)
             }
-            _ => sequence::run(r, self),
+            9 => sequence::run(r, self),
+            10 => self.same(&Case::Open { room: sessions::room(r) }).map(drop),
+            11 => self.same(&Case::Feed(sessions::feed(r))).map(drop),
+            _ => stream::run(r, self),
         }
     }
 
@@ -66,8 +72,15 @@ impl<'a> Comparison<'a> {
                 return Err(Difference::between(case, name, *library));
             }
         }
-        self.counts[case.call()][expected.number() as usize] += 1;
+        self.count(case.call(), expected.number());
         Ok(expected)
+    }
+
+    /// A forged session may repeat any number; those that a call can give are counted.
+    pub fn count(&mut self, call: usize, number: u32) {
+        if let Some(count) = self.counts[call].get_mut(number as usize) {
+            *count += 1;
+        }
     }
 
     /// The same with a room near the length of what is to be written.
@@ -128,6 +141,7 @@ impl Seen {
 fn with_room(case: &mut Case, wanted: usize) -> &Case {
     match case {
         Case::Value { .. } | Case::Read { .. } => {}
+        Case::Open { .. } | Case::Feed(_) => {}
         Case::Write { room, .. } | Case::Update(Change { room, .. }) | Case::Undo(Change { room, .. }) => *room = wanted,
     }
     case
@@ -148,16 +162,16 @@ impl Difference {
 impl fmt::Display for Comparison<'_> {
     fn fmt(&self, f: &mut fmt::Formatter<'_>) -> fmt::Result {
         write!(f, "{:12}", "number")?;
-        CALLS.iter().try_for_each(|call| write!(f, "{call:>12}"))?;
-        for number in 0..19 {
+        CALLS.iter().try_for_each(|call| write!(f, "{call:>13}"))?;
+        for number in 0..20 {
             write!(f, "\n{number:<12}")?;
             for (call, numbers) in NUMBERS.iter().enumerate() {
                 match numbers.contains(&number) {
-                    true => write!(f, "{:>12}", self.counts[call][number])?,
-                    false => write!(f, "{:>12}", "")?,
+                    true => write!(f, "{:>13}", self.counts[call][number])?,
+                    false => write!(f, "{:>13}", "")?,
                 }
             }
         }
-        write!(f, "\n{}", self.sequences)
+        write!(f, "\n{}\n{}", self.sequences, self.streams)
     }
 }

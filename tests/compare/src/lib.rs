@@ -7,3 +7,4 @@ pub mod generate;
 pub mod random;
 pub mod reference;
 pub mod sequence;
+pub mod stream;

@@ -167,7 +167,10 @@ fn no_bytes_need_no_address() {
             raw::lak_frame_write(Frame::default(), bytes, 0, out, 0).number,
             raw::lak_update(bytes, 0, bytes, 0, 0, out, 0).number,
             raw::lak_undo([0x90].as_ptr(), 1, [0x90].as_ptr(), 1, 0, out, 0).number,
+            raw::lak_session_open(bytes, 0).number,
+            raw::lak_session_feed(raw::lak_session_reset(), bytes, 0, out, 0).number,
+            raw::lak_session_feed(raw::lak_session_reset(), bytes, 0, [0; 60_009].as_mut_ptr(), 60_009).number,
         ]
     };
-    assert_eq!(numbers, [4, 1, 18, 11, 18]);
+    assert_eq!(numbers, [4, 1, 18, 11, 18, 19, 19, 1]);
 }

@@ -2,7 +2,7 @@
 
 use compare::calls::{Calls, Reference};
 use compare::comparison::Comparison;
-use laksubinat::raw::{self, Answer, FrameAnswer, ValueAnswer};
+use laksubinat::raw::{self, Answer, FrameAnswer, SessionAnswer, SessionOpening, ValueAnswer};
 
 #[test]
 fn library_and_second_implementation_agree() {
@@ -20,9 +20,16 @@ fn library_and_second_implementation_agree() {
 struct Impostor {
     on_write: fn(Answer, &mut [u8]) -> Answer,
     on_list: fn(&[u8]) -> &[u8],
+    on_feed: fn(SessionAnswer, &[u8], &mut [u8]) -> SessionAnswer,
+    on_reset: fn(raw::Session) -> raw::Session,
 }
 
-const HONEST: Impostor = Impostor { on_write: |answer, _| answer, on_list: |list| list };
+const HONEST: Impostor = Impostor {
+    on_write: |answer, _| answer,
+    on_list: |list| list,
+    on_feed: |answer, _, _| answer,
+    on_reset: |session| session,
+};
 
 impl Calls for Impostor {
     fn value_read(&self, bytes: &[u8]) -> ValueAnswer {
@@ -43,6 +50,18 @@ impl Calls for Impostor {
 
     fn undo(&self, tuple: &[u8], list: &[u8], base: u64, out: &mut [u8]) -> Answer {
         Reference.undo(tuple, list, base, out)
+    }
+
+    fn session_open(&self, carry: &[u8]) -> SessionOpening {
+        Reference.session_open(carry)
+    }
+
+    fn session_reset(&self) -> raw::Session {
+        (self.on_reset)(Reference.session_reset())
+    }
+
+    fn session_feed(&self, session: raw::Session, piece: &[u8], carry: &mut [u8]) -> SessionAnswer {
+        (self.on_feed)(Reference.session_feed(session, piece, carry), piece, carry)
     }
 }
 
@@ -76,4 +95,28 @@ fn a_byte_past_the_length_or_under_a_refusal_is_seen() {
         answer
     };
     assert!(is_found_out(Impostor { on_write: refused, ..HONEST }));
+}
+
+#[test]
+fn impostors_of_sessions_are_found_out() {
+    let copied = |answer: SessionAnswer, piece: &[u8], carry: &mut [u8]| {
+        if answer.number == 0 && !answer.in_carry {
+            carry[..answer.length as usize].copy_from_slice(&piece[..answer.length as usize]);
+        }
+        answer
+    };
+    assert!(is_found_out(Impostor { on_feed: copied, ..HONEST }));
+    let past = |answer: SessionAnswer, _: &[u8], carry: &mut [u8]| {
+        if let Some(byte) = carry.get_mut(answer.session.held as usize) {
+            *byte ^= 1;
+        }
+        answer
+    };
+    assert!(is_found_out(Impostor { on_feed: past, ..HONEST }));
+    let counted = |answer: SessionAnswer, _: &[u8], _: &mut [u8]| SessionAnswer { offset: answer.session.offset, ..answer };
+    assert!(is_found_out(Impostor { on_feed: counted, ..HONEST }));
+    let shown = |answer: SessionAnswer, _: &[u8], _: &mut [u8]| SessionAnswer { in_carry: false, ..answer };
+    assert!(is_found_out(Impostor { on_feed: shown, ..HONEST }));
+    let kept = |session: raw::Session| raw::Session { offset: 1, ..session };
+    assert!(is_found_out(Impostor { on_reset: kept, ..HONEST }));
 }

@@ -1,10 +1,11 @@
 //! The comparison as a target for libFuzzer, which looks for inputs that reach new parts of the second implementation.
-//! The input's first byte chooses the call, or a sequence; the rest is taken apart into what it is given.
+//! The input's first byte chooses the call, a sequence or a line; the rest is taken apart into what it is given.
 
 use compare::calls::{numbers, places};
-use compare::cases::{Case, Change};
+use compare::cases::{Case, Change, Feed};
 use compare::comparison::{Comparison, Difference};
 use compare::sequence::Sequence;
+use compare::stream;
 use laksubinat::raw;
 
 /// The part of the input that has not been used; past its end there are zeros and empty parts.
@@ -75,6 +76,21 @@ fn sequence(input: &mut Input, comparison: &mut Comparison) -> Result<(), Differ
     Ok(())
 }
 
+fn feed(input: &mut Input) -> Feed {
+    let session = raw::Session { offset: input.number(), held: input.number(), refused: input.byte().into() };
+    let room = 60_000 + usize::from(input.byte());
+    let begun = input.sized_part().to_vec();
+    Feed { session, begun, piece: input.0.to_vec(), room }
+}
+
+/// A line with the lengths of its pieces; the last of these is not 0, so that it ends.
+fn line(input: &mut Input, comparison: &mut Comparison) -> Result<(), Difference> {
+    let count = usize::from(input.byte() & 7);
+    let mut lengths: Vec<usize> = (0..count).map(|_| input.byte().into()).collect();
+    lengths.push(1 + input.word());
+    stream::cut(comparison, input.0, &lengths)
+}
+
 fn compare(mut input: Input) -> Result<(), Difference> {
     let mut comparison = Comparison::of_library();
     let case = match input.byte() {
@@ -83,6 +99,8 @@ fn compare(mut input: Input) -> Result<(), Difference> {
         2 => record(&mut input),
         3 => Case::Update(change(&mut input)),
         4 => Case::Undo(change(&mut input)),
+        5 => Case::Feed(feed(&mut input)),
+        6 => return line(&mut input, &mut comparison),
         _ => return sequence(&mut input, &mut comparison),
     };
     comparison.same(&case).map(drop)

@@ -144,10 +144,8 @@ fn contents(r: &mut Random) -> Vec<u8> {
 }
 
 /// Frames that a server and its client exchanged.
-const RECORDED: [&[u8]; 2] = [
-    include_bytes!("../../../model/data/requests.bin"),
-    include_bytes!("../../../model/data/responses.bin"),
-];
+const RECORDED: [&[u8]; 2] =
+    [include_bytes!("../../../model/data/requests.bin"), include_bytes!("../../../model/data/responses.bin")];
 
 /// One of the recorded frames, and those after it.
 fn recorded(r: &mut Random) -> Vec<u8> {

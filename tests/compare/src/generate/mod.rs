@@ -2,6 +2,7 @@
 
 pub mod changes;
 pub mod frames;
+pub mod sessions;
 pub mod values;
 
 use crate::random::Random;

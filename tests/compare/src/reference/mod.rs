@@ -2,5 +2,6 @@
 //! Numbers are `i128`, bytes are vectors, containers are trees, and nothing is quick.
 
 pub mod frames;
+pub mod sessions;
 pub mod updates;
 pub mod values;
