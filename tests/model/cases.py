@@ -12,6 +12,7 @@ import sys
 import damaged_values
 import frame_cases
 import listing_cases
+import session_cases
 import update_cases
 import values
 
@@ -21,6 +22,7 @@ CALLS = {
     "w": frame_cases.answer,
     "u": update_cases.answer,
     "l": listing_cases.answer,
+    "s": session_cases.answer,
 }
 
 
@@ -34,6 +36,7 @@ def lines():
     yield from frame_cases.lines()
     yield from update_cases.lines()
     yield from listing_cases.lines()
+    yield from session_cases.lines()
 
 
 def main():

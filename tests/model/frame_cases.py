@@ -208,13 +208,16 @@ def record_of(b):
     return record
 
 
+def shown_record(record):
+    numbers = [str(record.get("code", 0))] + [str(record.get(n, "-")) for n in NAMES]
+    return numbers + ["%d,%d" % record[n] if n in record else "-" for n in PLACES]
+
+
 def answer(line):
     fields = line.split("\t")
     if fields[0] == "f":
         number, length, record = frames.read(unpacked(fields[1]))
-        shown_record = [str(record.get("code", 0))] + [str(record.get(n, "-")) for n in NAMES]
-        shown_record += ["%d,%d" % record[n] if n in record else "-" for n in PLACES]
-        return "\t".join(["f", str(number), str(length)] + shown_record)
+        return "\t".join(["f", str(number), str(length)] + shown_record(record))
     number, frame = frames.write(record_of(unpacked(fields[1])), unpacked(fields[2]), int(fields[3]))
     return "w\t%d\t%d\t%s" % (number, len(frame), shown(frame, int(fields[3])))
 

@@ -65,14 +65,18 @@ fn print_places(frame: Frame) {
     print_place(error);
 }
 
+pub(crate) fn print_record(frame: Frame) {
+    print_numbers(frame);
+    print_places(frame);
+}
+
 pub(crate) fn print_read(bytes: &[u8]) {
     let answer = frame_reading::read_frame(bytes);
     let frame = answer.frame;
     print(b"f");
     print_number(answer.number as usize);
     print_number(answer.length);
-    print_numbers(frame);
-    print_places(frame);
+    print_record(frame);
     print(b"\n");
 }
 

@@ -1,88 +1,90 @@
 // Worked cases from lines of text on standard input, a line of output for each, which the gate
 // compares with what a second implementation says. A line begins with the call that it is for.
 mod frame_cases;
+mod session_cases;
 mod text;
 mod update_cases;
 mod value_cases;
 
 use text::find;
-ghost use Prim.Native.Nat.{_≤_};
-ghost use lib.ListN.{length};
+use text::part;
 
-// The field of a line from `at` to the next tab.
-fn field(line: &[u8], at: usize) -> &[u8]
-    requires { ⌜ at ≤ length (now line) ⌝ }
-    ensures { λ r. ⌜ length (now r) ≤ length (now (line .entry)) ⌝ }
-{
-    let end = find(line, at, b'\t');
-    &line[at..end]
+// The bytes of the `n`th field of a line, put into a buffer; as many as there is room for.
+fn bytes_in<'a>(line: &[u8], n: usize, buffer: &'a mut [u8]) -> &'a mut [u8] {
+    let end = text::expand(part(line, b'\t', n), buffer);
+    &mut buffer[0..end]
+}
+
+fn number_in(line: &[u8], n: usize) -> usize {
+    text::decimal_at(part(line, b'\t', n), 0)
+}
+
+// As many bytes of a buffer as the `n`th field of a line says.
+fn room_in<'a>(line: &[u8], n: usize, buffer: &'a mut [u8]) -> &'a mut [u8] {
+    let room = number_in(line, n);
+    if room <= buffer.len() {
+        return &mut buffer[0..room];
+    }
+    buffer
 }
 
 // v: a value read alone.
 fn print_value(line: &[u8]) {
-    let mut bytes = [0u8; 1024];
-    let written = field(line, 0);
-    text::print(written);
-    let n = text::expand(written, &mut bytes);
-    value_cases::print_value(&bytes[0..n]);
+    let mut buffer = [0u8; 1024];
+    text::print(part(line, b'\t', 0));
+    let bytes = bytes_in(line, 0, &mut buffer);
+    value_cases::print_value(bytes);
 }
 
 // f: a frame read.
 fn print_frame(line: &[u8]) {
-    let mut bytes = [0u8; 61440];
-    let written = field(line, 0);
-    let n = text::expand(written, &mut bytes);
-    frame_cases::print_read(&bytes[0..n]);
-}
-
-// Where the field after the one at `at` begins.
-fn after(line: &[u8], at: usize) -> usize
-    requires { ⌜ at ≤ length (now line) ⌝ }
-    ensures { λ r. ⌜ r ≤ length (now (line .entry)) ⌝ }
-{
-    let end = find(line, at, b'\t');
-    if end < line.len() { end + 1 } else { end }
+    let mut buffer = [0u8; 61440];
+    let bytes = bytes_in(line, 0, &mut buffer);
+    frame_cases::print_read(bytes);
 }
 
 // w: a record, the bytes of its places, and the room of the lent buffer, to be written as a frame.
 fn print_written(line: &[u8]) {
-    let mut record = [0u8; 256];
-    let mut bytes = [0u8; 61440];
-    let mut out = [0u8; 61440];
-    let at_bytes = after(line, 0);
-    let at_room = after(line, at_bytes);
-    let n = text::expand(field(line, 0), &mut record);
-    let m = text::expand(field(line, at_bytes), &mut bytes);
-    let room = text::decimal_at(line, at_room);
-    if room <= 61440 {
-        frame_cases::print_write(&record[0..n], &bytes[0..m], &mut out[0..room]);
-    }
+    let mut record_buffer = [0u8; 256];
+    let mut bytes_buffer = [0u8; 61440];
+    let mut out_buffer = [0u8; 61440];
+    let record = bytes_in(line, 0, &mut record_buffer);
+    let bytes = bytes_in(line, 1, &mut bytes_buffer);
+    let out = room_in(line, 2, &mut out_buffer);
+    frame_cases::print_write(record, bytes, out);
 }
 
 // u: a tuple, a list, an index base and the room of the lent buffer: the update and its undo list.
 fn print_updated(line: &[u8]) {
-    let mut tuple = [0u8; 40960];
-    let mut list = [0u8; 40960];
-    let mut out = [0u8; 40960];
-    let at_list = after(line, 0);
-    let at_base = after(line, at_list);
-    let at_room = after(line, at_base);
-    let n = text::expand(field(line, 0), &mut tuple);
-    let m = text::expand(field(line, at_list), &mut list);
-    let base = text::decimal_at(line, at_base);
-    let room = text::decimal_at(line, at_room);
-    if room <= 40960 {
-        update_cases::print_update(&tuple[0..n], &list[0..m], base as u64, &mut out[0..room]);
-    }
+    let mut tuple_buffer = [0u8; 40960];
+    let mut list_buffer = [0u8; 40960];
+    let mut out_buffer = [0u8; 40960];
+    let tuple = bytes_in(line, 0, &mut tuple_buffer);
+    let list = bytes_in(line, 1, &mut list_buffer);
+    let base = number_in(line, 2) as u64;
+    let out = room_in(line, 3, &mut out_buffer);
+    update_cases::print_update(tuple, list, base, out);
 }
 
 // l: the listing of bytes, frames one after the other.
 fn print_listing(line: &[u8]) {
-    let mut bytes = [0u8; 69632];
+    let mut buffer = [0u8; 69632];
     let mut out = [0u8; 65536];
-    let n = text::expand(field(line, 0), &mut bytes);
-    let length = frame_listing::list(&bytes[0..n], &mut out);
+    let bytes = bytes_in(line, 0, &mut buffer);
+    let length = frame_listing::list(bytes, &mut out);
     text::print_text(&out, length);
+}
+
+// s: the carry buffer's length, the bytes at its start, those to feed, a session, and the steps.
+// The rest of the carry buffer holds 5a in every byte before it is lent.
+fn print_fed(line: &[u8]) {
+    let mut carry_buffer = [0x5au8; 61440];
+    let mut bytes_buffer = [0u8; 61440];
+    text::expand(part(line, b'\t', 1), &mut carry_buffer);
+    let carry = room_in(line, 0, &mut carry_buffer);
+    let bytes = bytes_in(line, 2, &mut bytes_buffer);
+    let session = session_cases::session_in(part(line, b'\t', 3));
+    session_cases::print_steps(session, part(line, b'\t', 4), bytes, carry);
 }
 
 // A letter for the call, a tab, and its fields.
@@ -98,6 +100,7 @@ fn print_line(line: &[u8]) {
         b'w' => print_written(fields),
         b'u' => print_updated(fields),
         b'l' => print_listing(fields),
+        b's' => print_fed(fields),
         _ => text::print(b"?\n"),
     }
 }

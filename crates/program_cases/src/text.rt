@@ -39,6 +39,22 @@ pub(crate) fn find(s: &[u8], at: usize, b: u8) -> usize
     i
 }
 
+// The part of the text between the `n`th `b` and the next one.
+pub(crate) fn part(text: &[u8], b: u8, n: usize) -> &[u8] {
+    let mut at: usize = 0;
+    let mut left = n;
+    while 0 < left {
+        let end = find(text, at, b);
+        if end == text.len() {
+            return &text[end..];
+        }
+        at = end + 1;
+        left -= 1;
+    }
+    let end = find(text, at, b);
+    &text[at..end]
+}
+
 fn digit(b: u8) -> u8
     ensures { λ r. ⌜ r < 16 ⌝ }
 {
@@ -186,10 +202,15 @@ fn print_front(s: &[u8], n: usize) {
     }
 }
 
+// A tab and the sum of bytes.
+pub(crate) fn print_sum(s: &[u8]) {
+    print(b"\t");
+    io::print_hex(STDOUT_FILENO, adler(s), 8);
+}
+
 // A lent buffer afterwards: the sum of it all, and the first of the `n` bytes written.
 pub(crate) fn print_buffer(out: &[u8], n: usize) {
-    print(b"\t");
-    io::print_hex(STDOUT_FILENO, adler(out), 8);
+    print_sum(out);
     print(b"\t");
     print_front(out, n);
 }
