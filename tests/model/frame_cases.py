@@ -4,6 +4,7 @@
   frame_cases.py lines       the lines: `f` a frame to read; `w` a record, the bytes of its places and a room, to write
   frame_cases.py answers     what must be printed of them, by the second implementation
 """
+import itertools
 import os
 import sys
 
@@ -13,6 +14,7 @@ from notation import packed, shown, unpacked
 
 NAMES = ["sync", "schema_version", "space", "index", "limit", "offset", "iterator", "index_base"]
 SELECT = bytes.fromhex("ce0000001b8201040001" "8610cd0200110014001300" "12ceffffffff2091cd0118")
+LEAST_SELECT = bytes.fromhex("ce000000158201040001" "8310cd0200" "12ceffffffff2091cd0118")
 
 
 def sized(contents):
@@ -32,6 +34,9 @@ FULL = {
     0x20: b"\x91\x05", 0x21: b"\x92\x01\xa1a", 0x22: b"\xa1f", 0x23: b"\xa5guest", 0x27: b"\xa1e", 0x28: b"\x90",
     0x30: b"\xc0", 0x31: b"\xa3bad",
 }
+# a select, update and delete where nothing is left out, and what may be; all other kinds hold what they require
+WHOLE = {0x01: [0x10, 0x11, 0x12, 0x13, 0x14, 0x20], 0x04: [0x10, 0x11, 0x20, 0x21], 0x05: [0x10, 0x11, 0x20]}
+OPTIONAL = [0x11, 0x13, 0x14]
 CODES = [0x00, 0x01, 0x02, 0x03, 0x04, 0x05, 0x06, 0x07, 0x08, 0x09, 0x0A, 0x40, 0x8000, 0x8002, 0x8FFF]
 
 
@@ -39,13 +44,27 @@ def head(code, *more):
     return map_with(entry(0x00, shortest(code)), *more)
 
 
-def body(keys, **changed):
-    return bytes([0x80 + len(keys)]) + b"".join(entry(k, FULL[k]) for k in keys)
+def body(keys, changed={}):
+    return bytes([0x80 + len(keys)]) + b"".join(entry(k, {**FULL, **changed}[k]) for k in keys)
+
+
+def keys_of(code):
+    return WHOLE.get(code, frames.required(code))
+
+
+def left_out():
+    """Selects, updates and deletes, the optional keys there or left out in every way; those there hold 0."""
+    for code in WHOLE:
+        for there in itertools.product((True, False), repeat=len(OPTIONAL)):
+            missing = [k for k, is_there in zip(OPTIONAL, there) if not is_there]
+            keys = sorted({*frames.required(code), *OPTIONAL} - {*missing})
+            yield sized(head(code) + body(keys)), "code %x, left out: %s" % (code, " ".join("%x" % k for k in missing) or "nothing")
 
 
 def to_read():
     yield SELECT, "the select of 001"
     yield SELECT + b"\xce", "the same and one byte"
+    yield LEAST_SELECT, "the select of 001 without index, offset and iterator"
     yield bytes.fromhex("ce00000020" "8300ce0000000001cf0000000000000053" "05ce00000068" "8130dd00000001" "9106"), "the response to an insert of 001"
     yield sized(bytes.fromhex("810000" "8326810106" "5a14" "5331")), "a heartbeat's answer of 001, with a size"
     for n in range(len(SELECT)):
@@ -71,15 +90,26 @@ def to_read():
         yield b"\xcd" + n.to_bytes(2, "big") + contents[:-1], "%d bytes, one missing" % n
     # every code: its required keys, one missing, all keys, no body
     for code in CODES + [0x0B, 0x0C, 0x3F, 0x41, 0x42, 0x7F, 0x80, 0x7FFF, 0x9000, 2**64 - 1]:
-        required = frames.required(code)
+        keys = keys_of(code)
         yield sized(head(code)), "code %x, no body" % code
         yield sized(head(code) + b"\x80"), "code %x, an empty body" % code
         yield sized(head(code) + body(sorted(FULL))), "code %x, all keys" % code
-        for missing in required or []:
-            yield sized(head(code) + body([k for k in required if k != missing])), "code %x without %x" % (code, missing)
-        if required:
-            yield sized(head(code) + body(required)), "code %x, its keys" % code
-            yield sized(head(code) + body(required[::-1])), "code %x, its keys turned round" % code
+        for missing in keys or []:
+            yield sized(head(code) + body([k for k in keys if k != missing])), "code %x without %x" % (code, missing)
+        if keys:
+            yield sized(head(code) + body(keys)), "code %x, its keys" % code
+            yield sized(head(code) + body(keys[::-1])), "code %x, its keys turned round" % code
+    # the optional keys left out; a required one missing beside them; held wrongly, which is 9 as before, and before 10
+    yield from left_out()
+    for code in WHOLE:
+        required = frames.required(code)
+        for missing in required:
+            keys = [k for k in required if k != missing]
+            yield sized(head(code) + body(keys)), "code %x without 11, 13, 14 and %x" % (code, missing)
+        for key in OPTIONAL:
+            for value in (b"\xce\xff\xff\xff\xff", b"\xcf\x00\x00\x00\x01\x00\x00\x00\x00", b"\xd0\x00", b"\xff", b"\xc0", b"\xa0", b"\x90"):
+                yield sized(head(code) + body([key, *required], {key: value})), "code %x, %x holds %s" % (code, key, value.hex())
+            yield sized(head(code) + body([key], {key: b"\xc0"})), "code %x, 9 before 10 by %x" % (code, key)
     # 4 and 5
     ping = head(0x40)
     yield sized(b"\xc1"), "header broken"
@@ -153,9 +183,15 @@ def to_write():
         yield {"code": code}, s, 500, "code %x, nothing else" % code
         for name in list(numbers) + PLACES:
             yield {k: v for k, v in record.items() if k != name}, s, 500, "code %x without %s" % (code, name)
-        for missing in frames.required(code) or []:
-            name = BODY[missing]
-            yield {k: v for k, v in record.items() if k != name}, s, 500, "code %x without %s" % (code, name)
+    for frame, what in left_out():
+        number, _, record = frames.read(frame)
+        # the claim of document 02, held to on the model's side too
+        assert number == 0 and frames.write(record, frame, 500)[1][5:] == frame[1:]
+        yield record, frame, 500, what
+        for name in [BODY[k] for k in frames.required(record["code"])]:
+            yield {k: v for k, v in record.items() if k != name}, frame, 500, "%s, and %s" % (what, name)
+    for code, key, value in itertools.product(WHOLE, OPTIONAL, (4294967295, 4294967296)):
+        yield {"code": code, **whole, BODY[key]: value}, s, 500, "code %x, %s %d" % (code, BODY[key], value)
     ping = {"code": 0x40}
     exact = len(frames.write({"code": 0x40, **whole}, s, 500)[1])
     for room in (exact - 1, exact, exact + 1, 0):

@@ -1,9 +1,11 @@
 #!/usr/bin/env python3
-"""A second reader and writer of frames, written from document 01 (with 000 and 001) and sharing no code with the library.
+"""A second reader and writer of frames, written from documents 01 (with 000 and 001) and 02 (2/12) and sharing no code with
+the library.
 
   read(bytes)                 -> (number, length, record)
   write(record, bytes, room)  -> (number, frame)
-A record is a dict: 'code' a number, and for each other name either nothing or a number, or (start, length).
+A record is a dict: 'code' a number, and for each other name either nothing or a number, or (start, length). An absent number
+is nothing and not 0, though index, offset, iterator and index base count as 0 then.
 """
 from values import Broken, end_of, first
 
@@ -15,12 +17,13 @@ STRINGS = {0x22: "function", 0x23: "user", 0x27: "expression", 0x31: "error"}
 ANY = {0x30: "data"}
 BODY = {**NUMBERS, **ARRAYS, **STRINGS, **ANY}
 PLACES = ["key", "tuple", "function", "user", "expression", "ops", "data", "error"]
+# 02, 2/12: "From now on 0x11, 0x13 and 0x14 are required nowhere"
 REQUIRED = {
-    0x01: [0x10, 0x11, 0x12, 0x13, 0x14, 0x20],
+    0x01: [0x10, 0x12, 0x20],
     0x02: [0x10, 0x21],
     0x03: [0x10, 0x21],
-    0x04: [0x10, 0x11, 0x20, 0x21],
-    0x05: [0x10, 0x11, 0x20],
+    0x04: [0x10, 0x20, 0x21],
+    0x05: [0x10, 0x20],
     0x06: [0x22, 0x21],
     0x0A: [0x22, 0x21],
     0x07: [0x23, 0x21],

@@ -3,7 +3,7 @@
 import os
 
 import frames
-from frame_cases import CODES, SELECT, body, entry, head, sized
+from frame_cases import CODES, LEAST_SELECT, SELECT, body, entry, head, keys_of, sized
 from frames import shortest
 from notation import packed, unpacked
 
@@ -22,7 +22,7 @@ def answered(length):
 
 
 def synced(code, sync):
-    return sized(head(code, entry(0x01, shortest(sync))) + body(frames.required(code)))
+    return sized(head(code, entry(0x01, shortest(sync))) + body(keys_of(code)))
 
 
 def streams():
@@ -32,8 +32,9 @@ def streams():
     yield SELECT[:-1], "the select of 001 without its last byte"
     yield PING, "a ping without a sync"
     yield PING + SELECT + PING, "syncs absent and there"
+    yield PING + LEAST_SELECT + PING, "a select without index, offset and iterator"
     yield b"".join(synced(code, 9) for code in CODES), "every kind"
-    yield b"".join(sized(head(code) + body(frames.required(code))) for code in CODES), "every kind, no sync"
+    yield b"".join(sized(head(code) + body(keys_of(code))) for code in CODES), "every kind, no sync"
     yield b"".join(synced(0x40, n) for n in (0, 9, 10, 99, 100, 2**32 - 1, 2**63, 10**19, 2**64 - 1)), "syncs of every length"
     yield PING * 101, "frames counted above 100"
     yield recorded("requests") + recorded("responses"), "recorded traffic"

@@ -9,7 +9,7 @@ import zlib
 
 import frames
 import sessions
-from frame_cases import CODES, SELECT, body, head, shown_record, sized
+from frame_cases import CODES, LEAST_SELECT, SELECT, body, head, keys_of, shown_record, sized
 from listing_cases import PING, recorded, synced
 from notation import packed, unpacked
 from sessions import CARRY_ROOM, Session
@@ -58,6 +58,7 @@ def streams():
     yield b"", "nothing"
     yield SELECT, "the select of 001"
     yield PING + SELECT + PING, "three frames"
+    yield PING + LEAST_SELECT + PING, "a select without index, offset and iterator"
     yield SELECT + b"\xce", "01's example"
     yield SELECT[:-1], "the select of 001 without its last byte"
     yield PING + b"\xcd\x01", "a size cut short"
@@ -73,7 +74,7 @@ def cuttings():
         for sizes in CUTTINGS:
             yield s, run(s, sizes, [0]), "%s, by %s" % (what, " ".join(map(str, sizes)))
     for code in CODES:
-        s = synced(code, 2**32) + sized(head(code) + body(frames.required(code)))
+        s = synced(code, 2**32) + sized(head(code) + body(keys_of(code)))
         for sizes in ([7], [ALL]):
             yield s, run(s, sizes), "code %x" % code
     for n in (1, 13, 100):

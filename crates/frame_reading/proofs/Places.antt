@@ -43,11 +43,11 @@ code-there (some c) n e h = rw e
 
 -- ---- 8 to 10
 
-pub no-code : (s : Bytes) (f g : ℕ → Place) → codeIn s f ≡ none → refuse 8 ≡ byPlaces s f g
+pub no-code : (s : Bytes) (f g : ℕ → Place) → codeIn s f ≡ none → refuse 8 ≡ byPlaces required s f g
 unfolding byPlaces given
 no-code s f g e = rw e
 
-pub no-such-code : (s : Bytes) (f g : ℕ → Place) (c : ℕ) → codeIn s f ≡ some c → required c ≡ none → refuse 8 ≡ byPlaces s f g
+pub no-such-code : (s : Bytes) (f g : ℕ → Place) (c : ℕ) → codeIn s f ≡ some c → required c ≡ none → refuse 8 ≡ byPlaces required s f g
 unfolding byPlaces given
 no-such-code s f g c e h = rw (e, h)
 
@@ -58,16 +58,16 @@ pub record Judged (s : Bytes) (f g : ℕ → Place) (c : ℕ) (ks : List ℕ) (b
   pub nine : b ≡ (suited headerTable s f && suited bodyTable s g)
 
 module _ {s : Bytes} {f g : ℕ → Place} {c : ℕ} {ks : List ℕ} {b : Bool} (j : Judged s f g c ks b) where
-  pub unsuited : b ≡ false → refuse 9 ≡ byPlaces s f g
+  pub unsuited : b ≡ false → refuse 9 ≡ byPlaces required s f g
   unfolding byPlaces given check
   unsuited e = rw (j .coded, j .known, ← (j .nine), e)
 
   module _ (e : b ≡ true) {t : Bool} (h : t ≡ all (λ (k : ℕ). g k .present) ks) where
-    pub not-all-there : t ≡ false → refuse 10 ≡ byPlaces s f g
+    pub not-all-there : t ≡ false → refuse 10 ≡ byPlaces required s f g
     unfolding byPlaces given check
     not-all-there q = rw (j .coded, j .known, ← (j .nine), e, ← h, q)
 
-    pub accepted : t ≡ true → {r : Frame} → r ≡ frameAt c s f g → _≡_ {A = FrameAnswer} (record { number = 0; length = length s; frame = r }) (byPlaces s f g)
+    pub accepted : t ≡ true → {r : Frame} → r ≡ frameAt c s f g → _≡_ {A = FrameAnswer} (record { number = 0; length = length s; frame = r }) (byPlaces required s f g)
     unfolding byPlaces given check accept
     accepted q p = rw (j .coded, j .known, ← (j .nine), e, ← h, q, p)
 
@@ -78,7 +78,7 @@ unfoldable pub judged : Bytes → Table → Table → FrameAnswer
 judged s h b =
     pick (eqb (h .number) 6 || eqb (b .number) 6) (refuse 6)
     (pick (eqb (h .number) 7 || eqb (b .number) 7) (refuse 7)
-    (byPlaces s (placeIn (h .starts) (h .lengths)) (placeIn (b .starts) (b .lengths))))
+    (byPlaces required s (placeIn (h .starts) (h .lengths)) (placeIn (b .starts) (b .lengths))))
 
 -- the entries that a table was made of can all be held by it
 abbrev pub Holds : Bytes → Option (List Entry) → Type 0
@@ -104,7 +104,7 @@ judged-entries s none bo p q = refl
 judged-entries s (some hs) none p q = rw (or-true (eqb (laidAll hs (emptyTable 0) .number) 6))
 judged-entries s (some hs) (some bs) p q =
     by-numbers (laidAll hs (emptyTable 0) .number) (laidAll bs (emptyTable 0) .number) (distinct (keys hs)) (distinct (keys bs)) _ (number-found p) (number-found q)
-    ∙ ap₂ (λ (f g : ℕ → Place). check (refuse 7) (distinct (keys hs) && distinct (keys bs)) (byPlaces s f g)) (places-found p) (places-found q)
+    ∙ ap₂ (λ (f g : ℕ → Place). check (refuse 7) (distinct (keys hs) && distinct (keys bs)) (byPlaces required s f g)) (places-found p) (places-found q)
 
 holds : (s : Bytes) (at : ℕ) → Holds s (entriesAt heldDepth s at)
 holds s at = go (entriesAt heldDepth s at) refl

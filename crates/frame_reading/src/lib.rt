@@ -7,6 +7,7 @@ use frames::Size;
 use msgpack_scalars::Natural;
 use msgpack_values::Read;
 ghost use mathlib.Core.Path.{_≡_};
+ghost use Rattle.frames.specs.Codes.{required};
 ghost use Rattle.frames.specs.Keys.{emptyFrame};
 ghost use Rattle.frames.specs.Limits.{heldDepth};
 ghost use Rattle.frames.specs.Maps.{entriesAt};
@@ -90,7 +91,7 @@ fn by_places(
     starts: &[usize],
     lengths: &[usize],
 ) -> FrameAnswer
-    ensures { λ r. ⌜ r ≡ byPlaces (now (s .entry)) (placeIn (now («header_starts» .entry)) (now («header_lengths» .entry))) (placeIn (now (starts .entry)) (now (lengths .entry))) ⌝ }
+    ensures { λ r. ⌜ r ≡ byPlaces required (now (s .entry)) (placeIn (now («header_starts» .entry)) (now («header_lengths» .entry))) (placeIn (now (starts .entry)) (now (lengths .entry))) ⌝ }
 {
     let code = frame_fields::number_in(s, header_starts, header_lengths, 0x00);
     if !code.present {

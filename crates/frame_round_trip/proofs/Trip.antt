@@ -1,9 +1,9 @@
 -- The round trip: from what the writer accepts to bytes, to maps, to the record, and back. Assumes nothing.
 use Prim.Native.Nat.{ℕ, suc, _+_, _-_, _^_, _≤_, _<_}
 use mathlib.Core.Path.{_≡_, refl, sym, ap, ap₂, fun-ext, _∙_, subst}
-use mathlib.Core.Bool.{Bool, true, false}
+use mathlib.Core.Bool.{Bool, true}
 use mathlib.Core.List.{List, [], _∷_, _++_, append-assoc, append-nil}
-use mathlib.Core.Option.{Option, none, some}
+use mathlib.Core.Option.{Option, some}
 use native.Mathlib.Omega.{arith}
 use borrow.Author.Tests.{ltb-true, leb-true, le-leb, eq-eqb}
 use lib.Dec.{leb, ltb}
@@ -34,6 +34,7 @@ use Rattle.frame_round_trip.specs.RoundTrip.{RoundTrip, RoundTrips}
 use Rattle.frame_round_trip.proofs.Numbers.{size-read}
 use Rattle.frame_round_trip.proofs.Maps.{All, Fine, located, behind, Stands, seek, map-whole, map-entries, found}
 use Rattle.frames.proofs.Pairs.{pairs-few}
+use Rattle.frames.proofs.Cascade.{by-check, by-given}
 use Rattle.frame_round_trip.proofs.Items.{both, itemKeys, narrow, Ready, ready, tabled, pairs-fine, distinct-located, seek-pairs, again, Backs, number-back, backs, reread, reread-back, suitedItems, suited-back, present-stands}
 
 -- ---- from bytes to maps
@@ -178,7 +179,7 @@ module _ (c : ℕ) (hs bs : List Item) (ks : List ℕ) (ok : Accepted c hs bs ks
   needs-there =
       ap (λ (p : ℕ → Bool). all p ks) (fun-ext (λ k. present-stands w (g k) (encoded (locate bs k)) (held-stand w (5 + length a) bs [] (ok .body) after-head k))) ∙ ok .needed
 
-  places-read : byPlaces w f g ≡ accept (length w) (frameAt c w f g)
+  places-read : byPlaces required w f g ≡ accept (length w) (frameAt c w f g)
   unfolding byPlaces given check f g
   places-read =
       rw (code-read, ok .known, ok .head-known w f, ok .body-known w g, suit w 5 hs b (ok .head) after-size, suit w (5 + length a) bs [] (ok .body) after-head, needs-there)
@@ -213,28 +214,21 @@ module _ (c : ℕ) (hs bs : List Item) (room : ℕ) where
   Says (refused n) = n ≡ 0 → ⊥
   Says (written v) = Passed c hs bs room v
 
-  check-says : (n : ℕ) (b : Bool) (o : Outcome) → (n ≡ 0 → ⊥) → (b ≡ true → Says o) → Says (check (refused n) b o)
-  unfolding check
-  check-says n true o h next = next refl
-  check-says n false o h next = h
+  no : (n : ℕ) → Says (refused (suc n))
+  no n e = omega arith
 
-  given-says : (o : Option (List ℕ)) (k : List ℕ → Outcome) → ((ks : List ℕ) → o ≡ some ks → Says (k ks)) → Says (given (refused 8) o k)
-  unfolding given
-  given-says none k next = λ e. omega arith
-  given-says (some ks) k next = next ks refl
-
-  says : Says (writeItems c hs bs room)
+  says : Says (writeItems (required c) hs bs room)
   unfolding writeItems
   says =
-      given-says (required c) _ (λ ks known.
-      check-says 4 _ _ (λ e. omega arith) (λ sounds.
-      check-says 9 _ _ (λ e. omega arith) (λ fits.
-      check-says 10 _ _ (λ e. omega arith) (λ needed.
-      check-says 3 _ _ (λ e. omega arith) (λ short.
-      check-says 18 _ _ (λ e. omega arith) (λ roomy.
+      by-given Says (required c) (no 7) (λ ks known.
+      by-check Says _ (no 3) (λ sounds.
+      by-check Says _ (no 8) (λ fits.
+      by-check Says _ (no 9) (λ needed.
+      by-check Says _ (no 2) (λ short.
+      by-check Says _ (no 17) (λ roomy.
       record { ks = ks; known = known; sounds = sounds; fits = fits; needed = needed; short = leb-true _ _ short; roomy = leb-true _ _ roomy; made = refl }))))))
 
-again-written : (c : ℕ) (hs bs : List Item) (room large : ℕ) (v : Bytes) → Passed c hs bs room v → length v ≤ large → writeItems c hs bs large ≡ written v
+again-written : (c : ℕ) (hs bs : List Item) (room large : ℕ) (v : Bytes) → Passed c hs bs room v → length v ≤ large → writeItems (required c) hs bs large ≡ written v
 unfolding writeItems given check
 again-written c hs bs room large v p l =
     let k : length (frameForm (contents hs bs)) ≤ large = subst (λ (x : Bytes). length x ≤ large) (p .made) l in
@@ -342,8 +336,8 @@ module _ (r : Frame) (s : Bytes) (room : ℕ) (p : Passed (r .code) (headerItems
   rewritten : (large : ℕ) → length x ≤ large → frameWrite (frameRead x .frame) x large ≡ written x
   unfolding frameWrite x
   rewritten large l =
-      ap₂ (λ (c : ℕ) (hs : List Item). writeItems c hs (bodyItems (frameRead x .frame) x) large) same-code same-header
-      ∙ ap (λ (bs : List Item). writeItems (r .code) (headerItems r) bs large) same-body
+      ap₂ (λ (c : ℕ) (hs : List Item). writeItems (required c) hs (bodyItems (frameRead x .frame) x) large) same-code same-header
+      ∙ ap (λ (bs : List Item). writeItems (required (r .code)) (headerItems r) bs large) same-body
       ∙ again-written (r .code) (headerItems r) (bodyItems r s) room large x p l
 
   trip : RoundTrip r s x

@@ -13,10 +13,10 @@ use Rattle.frame_rules.specs.declared.Needs.{Needs}
 abbrev pub knownNeeds : ℕ → List ℕ → Needs
 knownNeeds n ks = record { known = true; count = n; keys = ks }
 
--- the required keys in a room of six, 0 past the last
+-- the required keys in a room of three, 0 past the last
 unfoldable pub needsFor : Option (List ℕ) → Needs
-needsFor none = record { known = false; count = 0; keys = replicate 6 0 }
-needsFor (some ks) = knownNeeds (length ks) (ks ++ replicate (6 - length ks) 0)
+needsFor none = record { known = false; count = 0; keys = replicate 3 0 }
+needsFor (some ks) = knownNeeds (length ks) (ks ++ replicate (3 - length ks) 0)
 
 unfoldable pub needsOf : ℕ → Needs
 needsOf c = needsFor (required c)

@@ -18,7 +18,7 @@ ghost use Rattle.frame_rules.specs.Needs.{knownNeeds, needsOf, lineAt};
 pub struct Needs {
     pub known: bool,
     pub count: usize,
-    pub keys: [usize; 6],
+    pub keys: [usize; 3],
 }
 
 fn has_header(v: &[u8], opening: Opening) -> bool
@@ -52,7 +52,7 @@ pub fn suits_rule(rule: Rule, v: &[u8]) -> bool
     }
 }
 
-fn needing(count: usize, keys: [usize; 6]) -> Needs
+fn needing(count: usize, keys: [usize; 3]) -> Needs
     ensures { λ r. ⌜ r ≡ knownNeeds count keys ⌝ }
 {
     Needs {
@@ -66,23 +66,23 @@ pub fn needs_of(code: u64) -> Needs
     ensures { λ r. ⌜ r ≡ needsOf code ⌝ }
 {
     match code {
-        0x00 => needing(0, [0, 0, 0, 0, 0, 0]),
-        0x01 => needing(6, [0x10, 0x11, 0x12, 0x13, 0x14, 0x20]),
-        0x02 => needing(2, [0x10, 0x21, 0, 0, 0, 0]),
-        0x03 => needing(2, [0x10, 0x21, 0, 0, 0, 0]),
-        0x04 => needing(4, [0x10, 0x11, 0x20, 0x21, 0, 0]),
-        0x05 => needing(3, [0x10, 0x11, 0x20, 0, 0, 0]),
-        0x06 => needing(2, [0x22, 0x21, 0, 0, 0, 0]),
-        0x07 => needing(2, [0x23, 0x21, 0, 0, 0, 0]),
-        0x08 => needing(2, [0x27, 0x21, 0, 0, 0, 0]),
-        0x09 => needing(3, [0x10, 0x21, 0x28, 0, 0, 0]),
-        0x0a => needing(2, [0x22, 0x21, 0, 0, 0, 0]),
-        0x40 => needing(0, [0, 0, 0, 0, 0, 0]),
-        0x8000..=0x8fff => needing(1, [0x31, 0, 0, 0, 0, 0]),
+        0x00 => needing(0, [0, 0, 0]),
+        0x01 => needing(3, [0x10, 0x12, 0x20]),
+        0x02 => needing(2, [0x10, 0x21, 0]),
+        0x03 => needing(2, [0x10, 0x21, 0]),
+        0x04 => needing(3, [0x10, 0x20, 0x21]),
+        0x05 => needing(2, [0x10, 0x20, 0]),
+        0x06 => needing(2, [0x22, 0x21, 0]),
+        0x07 => needing(2, [0x23, 0x21, 0]),
+        0x08 => needing(2, [0x27, 0x21, 0]),
+        0x09 => needing(3, [0x10, 0x21, 0x28]),
+        0x0a => needing(2, [0x22, 0x21, 0]),
+        0x40 => needing(0, [0, 0, 0]),
+        0x8000..=0x8fff => needing(1, [0x31, 0, 0]),
         _ => Needs {
             known: false,
             count: 0,
-            keys: [0, 0, 0, 0, 0, 0],
+            keys: [0, 0, 0],
         },
     }
 }

@@ -1,5 +1,6 @@
 -- The laws of frames. Assumes nothing.
 pub mod Front
 pub mod Pairs
+pub mod Cascade
 pub mod Sizes
 pub mod Judged

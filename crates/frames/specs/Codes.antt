@@ -10,17 +10,17 @@ pub record Code : Type 0 where
   pub code : ℕ
   pub needs : List ℕ
 
-abbrev code : ℕ → List ℕ → Code
+abbrev pub code : ℕ → List ℕ → Code
 code c ks = record { code = c; needs = ks }
 
--- "Codes and required body keys"
+-- "Codes and required body keys"; 02, request 2: "From now on 0x11, 0x13 and 0x14 are required nowhere"
 unfoldable pub codes : List Code
 codes =
-    code 0x01 (0x10 ∷ 0x11 ∷ 0x12 ∷ 0x13 ∷ 0x14 ∷ 0x20 ∷ [])  -- select
+    code 0x01 (0x10 ∷ 0x12 ∷ 0x20 ∷ [])  -- select
     ∷ code 0x02 (0x10 ∷ 0x21 ∷ [])  -- insert
     ∷ code 0x03 (0x10 ∷ 0x21 ∷ [])  -- replace
-    ∷ code 0x04 (0x10 ∷ 0x11 ∷ 0x20 ∷ 0x21 ∷ [])  -- update
-    ∷ code 0x05 (0x10 ∷ 0x11 ∷ 0x20 ∷ [])  -- delete
+    ∷ code 0x04 (0x10 ∷ 0x20 ∷ 0x21 ∷ [])  -- update
+    ∷ code 0x05 (0x10 ∷ 0x20 ∷ [])  -- delete
     ∷ code 0x06 (0x22 ∷ 0x21 ∷ [])  -- call_16
     ∷ code 0x0a (0x22 ∷ 0x21 ∷ [])  -- call
     ∷ code 0x07 (0x23 ∷ 0x21 ∷ [])  -- auth
@@ -38,6 +38,9 @@ among c (x ∷ xs) = pick (eqb c (x .code)) (some (x .needs)) (among c xs)
 unfoldable pub isError : ℕ → Bool
 isError c = leb 0x8000 c && leb c 0x8fff
 
--- the body keys that a code requires; none: an unknown code
+-- the body keys that a code requires by a list of codes; none: an unknown code
+abbrev pub requiredIn : List Code → ℕ → Option (List ℕ)
+requiredIn xs c = pick (isError c) (some (0x31 ∷ [])) (among c xs)
+
 unfoldable pub required : ℕ → Option (List ℕ)
-required c = pick (isError c) (some (0x31 ∷ [])) (among c codes)
+required c = requiredIn codes c

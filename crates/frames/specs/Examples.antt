@@ -1,9 +1,9 @@
 -- Worked cases, computed: what reading answers, by its number; a record read and written. (01's examples marked (P) stand whole in the crate known_examples.)
 use Prim.Native.Nat.{ℕ}
-use mathlib.Core.Bool.{Bool, true, false}
+use mathlib.Core.Bool.{true, false}
 use mathlib.Core.List.{List, [], _∷_, _++_, map}
 use mathlib.Core.Path.{_≡_, refl}
-use lib.ListN.{take, drop, length}
+use lib.ListN.{take, length}
 use Rattle.msgpack_first_bytes.specs.Bytes.{Bytes}
 use Rattle.msgpack_first_bytes.specs.FirstByte.{formOf, sameKind}
 use Rattle.msgpack_numbers.specs.Number.{number as sum}
@@ -13,6 +13,7 @@ use Rattle.msgpack_scalars.specs.Integer.{dueIn, due, naturalOf, unsignedBy, un
 use Rattle.msgpack_scalars.specs.Header.{counted, header}
 use Rattle.msgpack_writing.specs.Forms.{bigEndian, unsignedForm, mapHeader}
 use Rattle.frames.specs.declared.OptionalNumber.{OptionalNumber}
+use Rattle.frames.specs.declared.Place.{Place}
 use Rattle.frames.specs.declared.Frame.{Frame}
 use Rattle.frames.specs.Held.{all, view, asNumber, numberIn, isHeader, suits, numberOrBytes, valueHeld, heldAt, numberHeld, placeHeld, encoded, isSome, locate}
 use Rattle.frames.specs.Keys.{headerItems, bodyItems, optional, codeIn, frameAt, nowhere, emptyFrame}
@@ -112,6 +113,19 @@ cases =
     ∷ read (framed (0x81 ∷ 0x00 ∷ 0x01 ∷ [])) 10
     ∷ read (framed (0x81 ∷ 0x00 ∷ 0xcd ∷ 0x8f ∷ 0xff ∷ [])) 10
     ∷ read (framed (0x81 ∷ 0x00 ∷ 0xcd ∷ 0x8f ∷ 0xff ∷ 0x81 ∷ 0x31 ∷ 0xa0 ∷ [])) 0
+    -- select, update and delete without index, offset and iterator; 10 for each other key, 9 for an index that is no number
+    ∷ read (framed (0x81 ∷ 0x00 ∷ 0x01 ∷ 0x83 ∷ 0x10 ∷ 0x01 ∷ 0x12 ∷ 0x02 ∷ 0x20 ∷ 0x90 ∷ [])) 0
+    ∷ read (framed (0x81 ∷ 0x00 ∷ 0x01 ∷ 0x82 ∷ 0x12 ∷ 0x02 ∷ 0x20 ∷ 0x90 ∷ [])) 10
+    ∷ read (framed (0x81 ∷ 0x00 ∷ 0x01 ∷ 0x82 ∷ 0x10 ∷ 0x01 ∷ 0x20 ∷ 0x90 ∷ [])) 10
+    ∷ read (framed (0x81 ∷ 0x00 ∷ 0x01 ∷ 0x82 ∷ 0x10 ∷ 0x01 ∷ 0x12 ∷ 0x02 ∷ [])) 10
+    ∷ read (framed (0x81 ∷ 0x00 ∷ 0x01 ∷ 0x84 ∷ 0x10 ∷ 0x01 ∷ 0x11 ∷ 0xa0 ∷ 0x12 ∷ 0x02 ∷ 0x20 ∷ 0x90 ∷ [])) 9
+    ∷ read (framed (0x81 ∷ 0x00 ∷ 0x04 ∷ 0x83 ∷ 0x10 ∷ 0x01 ∷ 0x20 ∷ 0x90 ∷ 0x21 ∷ 0x90 ∷ [])) 0
+    ∷ read (framed (0x81 ∷ 0x00 ∷ 0x04 ∷ 0x82 ∷ 0x20 ∷ 0x90 ∷ 0x21 ∷ 0x90 ∷ [])) 10
+    ∷ read (framed (0x81 ∷ 0x00 ∷ 0x04 ∷ 0x82 ∷ 0x10 ∷ 0x01 ∷ 0x21 ∷ 0x90 ∷ [])) 10
+    ∷ read (framed (0x81 ∷ 0x00 ∷ 0x04 ∷ 0x82 ∷ 0x10 ∷ 0x01 ∷ 0x20 ∷ 0x90 ∷ [])) 10
+    ∷ read (framed (0x81 ∷ 0x00 ∷ 0x05 ∷ 0x82 ∷ 0x10 ∷ 0x01 ∷ 0x20 ∷ 0x90 ∷ [])) 0
+    ∷ read (framed (0x81 ∷ 0x00 ∷ 0x05 ∷ 0x82 ∷ 0x11 ∷ 0x00 ∷ 0x20 ∷ 0x90 ∷ [])) 10
+    ∷ read (framed (0x81 ∷ 0x00 ∷ 0x05 ∷ 0x82 ∷ 0x10 ∷ 0x01 ∷ 0x11 ∷ 0x00 ∷ [])) 10
     ∷ []
 
 examples : map (λ (c : Case). frameRead (c .bytes) .number) cases ≡ map (λ (c : Case). c .number) cases
@@ -126,20 +140,20 @@ is n = record { present = true; value = n }
 abbrev isNot : OptionalNumber
 isNot = record { present = false; value = 0 }
 
--- "is read with sync 4, space 512, limit 4,294,967,295"
-abbrev selected : Frame
-selected =
+-- a select of space 512 with its sync, limit and key; index, offset and iterator alike
+abbrev selectOf : OptionalNumber → OptionalNumber → ℕ → Place → Frame
+selectOf sync three limit key =
     record {
       code = 1;
-      sync = is 4;
+      sync = sync;
       «schema_version» = isNot;
       space = is 512;
-      index = is 0;
-      limit = is 4294967295;
-      offset = is 0;
-      iterator = is 0;
+      index = three;
+      limit = is limit;
+      offset = three;
+      iterator = three;
       «index_base» = isNot;
-      key = placed 28 4;
+      key = key;
       tuple = nowhere;
       function = nowhere;
       user = nowhere;
@@ -149,15 +163,27 @@ selected =
       error = nowhere;
     }
 
-select-read : frameRead select ≡ accept 32 selected
+-- "is read with sync 4, space 512, limit 4,294,967,295"
+abbrev selected : Frame
+selected = selectOf (is 4) (is 0) 4294967295 (placed 28 4)
+
+-- one without index, offset and iterator: "the record still says that it was absent"
+abbrev short : Bytes
+short = 0xce ∷ 0x00 ∷ 0x00 ∷ 0x00 ∷ 0x0d ∷ 0x81 ∷ 0x00 ∷ 0x01 ∷ 0x83 ∷ 0x10 ∷ 0xcd ∷ 0x02 ∷ 0x00 ∷ 0x12 ∷ 0x05 ∷ 0x20 ∷ 0x91 ∷ 0x07 ∷ []
+
+abbrev shortSelected : Frame
+shortSelected = selectOf isNot isNot 5 (placed 16 2)
+
+select-read : (frameRead select ≡ accept 32 selected) × (frameRead short ≡ accept 18 shortSelected)
 unfolding frameRead bySize sizeOf sizeBy inFrame bodyEntries bodyValue byEntries byPlaces suited refuse whole given check find distinct has keys entriesAt entriesBy entries entryAt keyed required isError among codes emptyFrame frameAt codeIn optional headerItems bodyItems numberHeld placeHeld heldAt valueHeld numberOrBytes suits isHeader numberIn asNumber view all value one container tooDeep byForm items sized payload sum formOf sameKind unsigned unsignedBy due dueIn naturalOf header counted
-select-read = refl
+select-read = (refl, refl)
 
 abbrev rising : Bytes
 rising =
     0xce ∷ 0x00 ∷ 0x00 ∷ 0x00 ∷ 0x1b ∷ 0x82 ∷ 0x00 ∷ 0x01 ∷ 0x01 ∷ 0x04 ∷ 0x86 ∷ 0x10 ∷ 0xcd ∷ 0x02 ∷ 0x00 ∷ 0x11 ∷ 0x00 ∷ 0x12 ∷ 0xce ∷ 0xff ∷ 0xff
     ∷ 0xff ∷ 0xff ∷ 0x13 ∷ 0x00 ∷ 0x14 ∷ 0x00 ∷ 0x20 ∷ 0x91 ∷ 0xcd ∷ 0x01 ∷ 0x18 ∷ []
 
-select-written : (frameWrite selected select 32 ≡ written rising) × (frameWrite selected select 31 ≡ refused 18)
+-- "so that writing it again leaves it out"
+select-written : (frameWrite selected select 32 ≡ written rising) × (frameWrite selected select 31 ≡ refused 18) × (frameWrite shortSelected short 18 ≡ written short)
 unfolding frameWrite writeItems each sound isWhole frameForm contents mapForm flat pairs onto given check required isError among codes headerItems bodyItems numberHeld placeHeld suits isHeader view all encoded isSome locate value one container tooDeep byForm items sized payload sum formOf sameKind header counted joined bigEndian unsignedForm mapHeader
-select-written = (refl, refl)
+select-written = (refl, refl, refl)

@@ -38,11 +38,11 @@ accept n r = record { number = 0; length = n; frame = r }
 unfoldable pub suited : List Line → Bytes → (ℕ → Place) → Bool
 suited xs s f = all (λ (x : Line). suits (x .rule) (heldAt (x .rule) s (f (x .key)))) xs
 
--- 8 to 10, and the record: by where each key's value stands in the header (f) and in the body (g)
-unfoldable pub byPlaces : Bytes → (ℕ → Place) → (ℕ → Place) → FrameAnswer
-byPlaces s f g =
+-- 8 to 10, and the record: by what each code requires, and by where each key's value stands in the header (f) and in the body (g)
+unfoldable pub byPlaces : (ℕ → Option (List ℕ)) → Bytes → (ℕ → Place) → (ℕ → Place) → FrameAnswer
+byPlaces needed s f g =
     given (refuse 8) (codeIn s f) (λ code.
-    given (refuse 8) (required code) (λ needs.
+    given (refuse 8) (needed code) (λ needs.
     check (refuse 9) (suited headerTable s f && suited bodyTable s g)
     (check (refuse 10) (all (λ (k : ℕ). g k .present) needs)
     (accept (length s) (frameAt code s f g)))))
@@ -53,7 +53,7 @@ byEntries s header body =
     given (refuse 6) header (λ hs.
     given (refuse 6) body (λ bs.
     check (refuse 7) (distinct (keys hs) && distinct (keys bs))
-    (byPlaces s (find hs) (find bs))))
+    (byPlaces required s (find hs) (find bs))))
 
 -- "A missing body counts as an empty map."
 unfoldable pub bodyValue : Bytes → Read

@@ -72,10 +72,10 @@ pub data Outcome : Type 0 where
 unfoldable pub each : (Item → Bool) → List Item → List Item → Bool
 each p hs bs = all p hs && all p bs
 
--- a frame of this code with the items hs in its header and bs in its body, into a buffer of `room` bytes
-unfoldable pub writeItems : ℕ → List Item → List Item → ℕ → Outcome
-writeItems code hs bs room =
-    given (refused 8) (required code) (λ needs.
+-- a frame whose code requires these keys (none: an unknown code), with the items hs in its header and bs in its body, into a buffer of `room` bytes
+unfoldable pub writeItems : Option (List ℕ) → List Item → List Item → ℕ → Outcome
+writeItems needed hs bs room =
+    given (refused 8) needed (λ needs.
     check (refused 4) (each (λ (x : Item). sound (x .held)) hs bs)
     (check (refused 9) (each (λ (x : Item). suits (x .rule) (x .held)) hs bs)
     (check (refused 10) (all (λ (k : ℕ). isSome (encoded (locate bs k))) needs)
@@ -85,7 +85,7 @@ writeItems code hs bs room =
 
 -- of the record r, whose places are of the bytes s
 unfoldable pub frameWrite : Frame → Bytes → ℕ → Outcome
-frameWrite r s room = writeItems (r .code) (headerItems r) (bodyItems r s) room
+frameWrite r s room = writeItems (required (r .code)) (headerItems r) (bodyItems r s) room
 
 -- ---- what the caller sees: the answer, and the lent buffer afterwards
 
