@@ -56,21 +56,22 @@ enum lak_refusal {
     LAK_SHORT_CARRY = 19
 };
 
-/* What a frame is: its code. An error's is any from LAK_CODE_ERROR_FIRST to LAK_CODE_ERROR_LAST. */
+/* What a frame is: its code. An error's is any from LAK_CODE_ERROR_FIRST to LAK_CODE_ERROR_LAST.
+ * Beside each, what its body requires (10). */
 enum lak_code {
     LAK_CODE_OK = 0x00,
-    LAK_CODE_SELECT = 0x01,
-    LAK_CODE_INSERT = 0x02,
-    LAK_CODE_REPLACE = 0x03,
-    LAK_CODE_UPDATE = 0x04,
-    LAK_CODE_DELETE = 0x05,
-    LAK_CODE_CALL_16 = 0x06,
-    LAK_CODE_AUTH = 0x07,
-    LAK_CODE_EVAL = 0x08,
-    LAK_CODE_UPSERT = 0x09,
-    LAK_CODE_CALL = 0x0a,
+    LAK_CODE_SELECT = 0x01,  /* space, limit, key */
+    LAK_CODE_INSERT = 0x02,  /* space, tuple */
+    LAK_CODE_REPLACE = 0x03, /* space, tuple */
+    LAK_CODE_UPDATE = 0x04,  /* space, key, tuple */
+    LAK_CODE_DELETE = 0x05,  /* space, key */
+    LAK_CODE_CALL_16 = 0x06, /* function, tuple */
+    LAK_CODE_AUTH = 0x07,    /* user, tuple */
+    LAK_CODE_EVAL = 0x08,    /* expression, tuple */
+    LAK_CODE_UPSERT = 0x09,  /* space, tuple, ops */
+    LAK_CODE_CALL = 0x0a,    /* function, tuple */
     LAK_CODE_PING = 0x40,
-    LAK_CODE_ERROR_FIRST = 0x8000,
+    LAK_CODE_ERROR_FIRST = 0x8000, /* error */
     LAK_CODE_ERROR_LAST = 0x8fff
 };
 
@@ -95,21 +96,24 @@ enum lak_room { LAK_FRAME_ROOM = 60005, LAK_TUPLE_ROOM = 16384, LAK_UNDO_ROOM = 
 /* What a carry buffer has at least: the longest frame, nine bytes of size number and 60,000. */
 enum { LAK_CARRY_ROOM = 60009 };
 
-/* A number that a frame may leave out; absent it is all 0. */
+/* A number that a frame may leave out. */
 typedef struct {
     bool present;
     uint64_t value;
 } lak_number;
 
 /* The place of a value that a frame may leave out: exactly its encoding, counted from the first
- * lent byte; absent it is all 0. */
+ * lent byte. */
 typedef struct {
     bool present;
     uint64_t start;
     uint64_t length;
 } lak_place;
 
-/* What a frame holds under its known keys. Where `present` is false the rest is not looked at. */
+/* What a frame holds under its known keys. What is absent is all 0 in a record that a call answers;
+ * in one that is written, where `present` is false the key is left out and the rest not looked at.
+ * `index`, `offset`, `iterator` and `index_base` count as 0 where they are absent, so that `value`
+ * may be used as a call answered it, and `present` tells whether the frame had the key. */
 typedef struct {
     uint64_t code;
     lak_number sync, schema_version;

@@ -118,6 +118,11 @@ static const frame_case refused_frames[] = {
     {"05 81 00 cd 90 00", LAK_BAD_CODE},
     {"05 82 00 40 01 a0", LAK_BAD_HELD},
     {"03 81 00 01", LAK_KEY_MISSING},
+    {"0f 81 00 01 85 10 01 11 02 13 04 14 05 20 91 06", LAK_KEY_MISSING},
+    {"09 81 00 01 82 10 01 20 91 06", LAK_KEY_MISSING},
+    {"09 81 00 04 82 10 01 20 91 06", LAK_KEY_MISSING},
+    {"06 81 00 05 81 10 01", LAK_KEY_MISSING},
+    {"0d 81 00 01 84 10 01 11 c0 12 03 20 91 06", LAK_BAD_HELD},
 };
 
 typedef struct {
@@ -125,13 +130,17 @@ typedef struct {
     const char *text;
 } kind_case;
 
-/* A frame of each kind, with exactly the keys that it requires. */
+/* A frame of each kind, with exactly the keys that it requires; a select, update and delete also with those that they
+ * may leave out. */
 static const kind_case kinds[] = {
     {LAK_CODE_OK, "03 81 00 00"},
+    {LAK_CODE_SELECT, "0b 81 00 01 83 10 01 12 03 20 91 06"},
     {LAK_CODE_SELECT, "11 81 00 01 86 10 01 11 02 12 03 13 04 14 05 20 91 06"},
     {LAK_CODE_INSERT, "09 81 00 02 82 10 01 21 91 07"},
     {LAK_CODE_REPLACE, "09 81 00 03 82 10 01 21 91 07"},
+    {LAK_CODE_UPDATE, "0c 81 00 04 83 10 01 20 91 06 21 91 07"},
     {LAK_CODE_UPDATE, "0e 81 00 04 84 10 01 11 02 20 91 06 21 91 07"},
+    {LAK_CODE_DELETE, "09 81 00 05 82 10 01 20 91 06"},
     {LAK_CODE_DELETE, "0b 81 00 05 83 10 01 11 02 20 91 06"},
     {LAK_CODE_CALL_16, "0a 81 00 06 82 22 a1 66 21 91 07"},
     {LAK_CODE_AUTH, "0a 81 00 07 82 23 a1 75 21 91 07"},
@@ -266,6 +275,55 @@ static void check_refused_writing(void)
     hex(&second, "dc ea 60"); /* an array of 60,000 zeros */
     memcpy(first.at, second.at, second.n);
     refuses(insert(512), LAK_BAD_SIZE, "more than 60,000 bytes");
+}
+
+/* A select, update and delete without index, offset, iterator and index base, as the writer makes them. */
+static const char *const left_out[] = {
+    "ce 00 00 00 0b 81 00 01 83 10 01 12 03 20 91 06",
+    "ce 00 00 00 0c 81 00 04 83 10 01 20 91 06 21 91 07",
+    "ce 00 00 00 09 81 00 05 82 10 01 20 91 06",
+};
+
+/* Read, they are absent and 0; written again, they are left out. */
+static void check_left_out(void)
+{
+    size_t i;
+    for (i = 0; i < sizeof left_out / sizeof left_out[0]; i++) {
+        lak_frame_answer a;
+        hex(&first, left_out[i]);
+        a = lak_frame_read(first.at, first.n);
+        expect(a.number == LAK_OK && a.length == first.n, "lak_frame_read", left_out[i]);
+        expect(no_number(a.frame.index) && no_number(a.frame.offset) && no_number(a.frame.iterator) &&
+                   no_number(a.frame.index_base),
+               "lak_frame_read, absent", left_out[i]);
+        fresh();
+        expect(gave(lak_frame_write(a.frame, first.at, first.n, out, first.n), LAK_OK, 0, left_out[i]),
+               "lak_frame_write", left_out[i]);
+    }
+}
+
+/* A select record made by hand, whose key is `first`. */
+static void check_select_by_hand(void)
+{
+    lak_frame f = empty_frame();
+    hex(&first, "91 06");
+    f.code = LAK_CODE_SELECT;
+    f.space.present = f.limit.present = f.key.present = true;
+    f.space.value = 1;
+    f.limit.value = 3;
+    f.key.length = first.n;
+    f.index.value = f.offset.value = f.iterator.value = 7;
+    fresh();
+    expect(gave(lak_frame_write(f, first.at, first.n, out, 16), LAK_OK, 0, left_out[0]), "lak_frame_write",
+           "an absent index with a value");
+    f.index.present = true;
+    f.index.value = 0;
+    fresh();
+    expect(gave(lak_frame_write(f, first.at, first.n, out, 18), LAK_OK, 0,
+                "ce 00 00 00 0d 81 00 01 84 10 01 11 00 12 03 20 91 06"),
+           "lak_frame_write", "index 0");
+    f.limit.present = false;
+    refuses(f, LAK_KEY_MISSING, "no limit");
 }
 
 /* ---- updates */
@@ -469,6 +527,8 @@ int main(void)
     check_select();
     check_every_key();
     check_refused_writing();
+    check_left_out();
+    check_select_by_hand();
     check_updates();
     check_taking_back();
     check_64_fields();

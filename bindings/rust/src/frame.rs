@@ -34,15 +34,15 @@ pub struct Frame {
     pub schema_version: Option<u64>,
     /// Body 0x10: the space, at most 4,294,967,295 like the four numbers after it.
     pub space: Option<u64>,
-    /// Body 0x11: the index.
+    /// Body 0x11: the index; absent counts as 0, see [`Frame::index`].
     pub index: Option<u64>,
     /// Body 0x12: the limit of a select.
     pub limit: Option<u64>,
-    /// Body 0x13: the offset of a select.
+    /// Body 0x13: the offset of a select; absent counts as 0, see [`Frame::offset`].
     pub offset: Option<u64>,
-    /// Body 0x14: the iterator of a select.
+    /// Body 0x14: the iterator of a select; absent counts as 0, see [`Frame::iterator`].
     pub iterator: Option<u64>,
-    /// Body 0x15: what field numbers count from, 0 or 1; absent counts as 0.
+    /// Body 0x15: what field numbers count from, 0 or 1; absent counts as 0, see [`Frame::index_base`].
     pub index_base: Option<u64>,
     /// Body 0x20: the key, an array.
     pub key: Option<Place>,
@@ -62,34 +62,34 @@ pub struct Frame {
     pub error: Option<Place>,
 }
 
-/// The kinds of frame, by their codes.
+/// The kinds of frame, by their codes, with what the body requires (10).
 #[derive(Clone, Copy, Debug, PartialEq, Eq, Hash)]
 pub enum Kind {
-    /// Code 0x01.
+    /// Code 0x01, which requires space, limit and key.
     Select,
-    /// Code 0x02.
+    /// Code 0x02, which requires space and tuple.
     Insert,
-    /// Code 0x03.
+    /// Code 0x03, which requires space and tuple.
     Replace,
-    /// Code 0x04.
+    /// Code 0x04, which requires space, key and tuple.
     Update,
-    /// Code 0x05.
+    /// Code 0x05, which requires space and key.
     Delete,
-    /// Code 0x06.
+    /// Code 0x06, which requires function and tuple.
     Call16,
-    /// Code 0x07.
+    /// Code 0x07, which requires user and tuple.
     Auth,
-    /// Code 0x08.
+    /// Code 0x08, which requires expression and tuple.
     Eval,
-    /// Code 0x09.
+    /// Code 0x09, which requires space, tuple and ops.
     Upsert,
-    /// Code 0x0a.
+    /// Code 0x0a, which requires function and tuple.
     Call,
-    /// Code 0x40.
+    /// Code 0x40, which requires nothing.
     Ping,
-    /// Code 0x00.
+    /// Code 0x00, which requires nothing.
     Ok,
-    /// Codes 0x8000 to 0x8fff: an answer with the error's number, 0 to 0xfff.
+    /// Codes 0x8000 to 0x8fff, which require error: an answer with the error's number, 0 to 0xfff.
     Error(u16),
 }
 
@@ -112,6 +112,44 @@ impl Frame {
             0x8000..=0x8fff => Kind::Error((self.code - 0x8000) as u16),
             _ => return None,
         })
+    }
+
+    /// What the index counts as, 0 where it is absent; the field of the same name tells whether it was there, and writing
+    /// leaves an absent one out.
+    ///
+    /// ```
+    /// use laksubinat::{read_frame, write_frame};
+    ///
+    /// # fn main() -> Result<(), laksubinat::Error> {
+    /// // a select of space, limit and key
+    /// let bytes = [0xce, 0, 0, 0, 11, 0x81, 0x00, 0x01, 0x83, 0x10, 0x07, 0x12, 0x01, 0x20, 0x91, 0x2a];
+    /// let (frame, _) = read_frame(&bytes)?;
+    /// assert_eq!((frame.index(), frame.offset(), frame.iterator()), (0, 0, 0));
+    /// assert_eq!((frame.index, frame.offset, frame.iterator), (None, None, None));
+    ///
+    /// let mut out = [0; 64];
+    /// let n = write_frame(&frame, &bytes, &mut out)?;
+    /// assert_eq!(out[..n], bytes);
+    /// # Ok(())
+    /// # }
+    /// ```
+    pub fn index(&self) -> u64 {
+        self.index.unwrap_or(0)
+    }
+
+    /// What the offset counts as, 0 where it is absent.
+    pub fn offset(&self) -> u64 {
+        self.offset.unwrap_or(0)
+    }
+
+    /// What the iterator counts as, 0 where it is absent.
+    pub fn iterator(&self) -> u64 {
+        self.iterator.unwrap_or(0)
+    }
+
+    /// What the index base counts as, 0 where it is absent.
+    pub fn index_base(&self) -> u64 {
+        self.index_base.unwrap_or(0)
     }
 }
 
@@ -175,3 +213,15 @@ macro_rules! same_fields {
 
 same_fields!(raw::Frame => Frame);
 same_fields!(Frame => raw::Frame);
+
+#[cfg(test)]
+mod tests {
+    use super::*;
+
+    #[test]
+    fn absent_numbers_count_as_0() {
+        let counted = |frame: Frame| [frame.index(), frame.offset(), frame.iterator(), frame.index_base()];
+        let there = Frame { index: Some(2), offset: Some(3), iterator: Some(4), index_base: Some(1), ..Frame::default() };
+        assert_eq!((counted(there), counted(Frame::default())), ([2, 3, 4, 1], [0; 4]));
+    }
+}

@@ -2,7 +2,7 @@
 
 use compare::calls::{Bindings, Calls, Interface, Reference};
 use compare::cases::{unhex, Case, Change};
-use laksubinat::raw::{self, Frame, Number, Place};
+use laksubinat::raw::{self, Frame, FrameAnswer, Number, Place};
 
 const ALL: [&dyn Calls; 3] = [&Reference, &Interface, &Bindings];
 
@@ -89,6 +89,103 @@ fn frames_written() {
 
     let unused = Frame { code: 0x40, limit: Number { present: false, value: u64::MAX }, ..Frame::default() };
     gives(&Case::Write { frame: unused, bytes: vec![], room: 100 }, 0, "what an absent number holds is not looked at");
+}
+
+/// A frame that is accepted: its index, offset, iterator and index base are these, and the record is written as the same bytes.
+fn keeps(header: &str, body: &str, numbers: [Option<u64>; 4]) {
+    let bytes = frame(header, &unhex(body));
+    for calls in ALL {
+        let FrameAnswer { number, frame, .. } = calls.frame_read(&bytes);
+        let read = [frame.index, frame.offset, frame.iterator, frame.index_base];
+        assert_eq!((number, read), (0, numbers.map(Number::from)), "{header} {body}");
+        let mut out = vec![0; bytes.len()];
+        assert_eq!(calls.frame_write(frame, &bytes, &mut out).number, 0, "{header} {body}");
+        assert_eq!(out, bytes, "{header} {body}");
+    }
+}
+
+#[test]
+fn index_offset_and_iterator() {
+    let select = "810001";
+    keeps(select, "86 1001 1100 1202 1300 1400 2090", [Some(0), Some(0), Some(0), None]);
+    keeps(select, "85 1001 1202 1304 1405 2090", [None, Some(4), Some(5), None]);
+    keeps(select, "85 1001 1103 1202 1405 2090", [Some(3), None, Some(5), None]);
+    keeps(select, "85 1001 1103 1202 1304 2090", [Some(3), Some(4), None, None]);
+    keeps(select, "84 1001 1202 1405 2090", [None, None, Some(5), None]);
+    keeps(select, "84 1001 1202 1304 2090", [None, Some(4), None, None]);
+    keeps(select, "84 1001 1103 1202 2090", [Some(3), None, None, None]);
+    keeps(select, "83 1001 1202 2090", [None, None, None, None]);
+    keeps("810004", "84 1001 1100 2090 2190", [Some(0), None, None, None]);
+    keeps("810004", "83 1001 2090 2190", [None, None, None, None]);
+    keeps("810004", "84 1001 1500 2090 2190", [None, None, None, Some(0)]);
+    keeps("810004", "84 1001 1501 2090 2190", [None, None, None, Some(1)]);
+    keeps("810005", "83 1001 1100 2090", [Some(0), None, None, None]);
+    keeps("810005", "82 1001 2090", [None, None, None, None]);
+    for (header, body, number) in [
+        (select, "85 1001 1100 1300 1400 2090", 10),
+        (select, "82 1001 2090", 10),
+        (select, "82 1202 2090", 10),
+        (select, "82 1001 1202", 10),
+        ("810004", "82 2090 2190", 10),
+        ("810004", "82 1001 2190", 10),
+        ("810004", "82 1001 2090", 10),
+        ("810005", "81 2090", 10),
+        ("810005", "81 1001", 10),
+        (select, "84 1001 11c0 1202 2090", 9),
+        (select, "84 1001 1202 13cf0000000100000000 2090", 9),
+        (select, "83 1001 14ff 2090", 9),
+        ("810004", "84 1001 11d000 2090 2190", 9),
+        ("810005", "83 1001 11a0 2090", 9),
+    ] {
+        gives(&Case::Read { bytes: frame(header, &unhex(body)) }, number, &format!("{header} {body}"));
+    }
+}
+
+#[test]
+fn index_offset_and_iterator_written() {
+    let [absent, there, above] =
+        [(false, 7), (true, 0), (true, 4_294_967_296)].map(|(present, value)| Number { present, value });
+    let (array, none) = (Place { present: true, start: 0, length: 1 }, Place::default());
+    let least = Frame { space: there, index: absent, offset: absent, iterator: absent, key: array, ..Frame::default() };
+    let select = Frame { code: 0x01, limit: there, ..least };
+    let update = Frame { code: 0x04, tuple: array, ..least };
+    let delete = Frame { code: 0x05, ..least };
+    for (record, header, body) in [
+        (select, "810001", "83 1000 1200 2090"),
+        (Frame { index: there, ..select }, "810001", "84 1000 1100 1200 2090"),
+        (Frame { offset: there, ..select }, "810001", "84 1000 1200 1300 2090"),
+        (Frame { iterator: there, ..select }, "810001", "84 1000 1200 1400 2090"),
+        (update, "810004", "83 1000 2090 2190"),
+        (Frame { index: there, ..update }, "810004", "84 1000 1100 2090 2190"),
+        (delete, "810005", "82 1000 2090"),
+        (Frame { index: there, ..delete }, "810005", "83 1000 1100 2090"),
+    ] {
+        let wanted = frame(header, &unhex(body));
+        for calls in ALL {
+            let mut out = vec![0; wanted.len()];
+            assert_eq!(calls.frame_write(record, &[0x90], &mut out).number, 0, "{header} {body}");
+            assert_eq!(out, wanted, "{header} {body}");
+        }
+    }
+    for (record, number) in [
+        (Frame { limit: absent, ..select }, 10),
+        (Frame { space: absent, ..select }, 10),
+        (Frame { key: none, ..select }, 10),
+        (Frame { limit: absent, index: there, offset: there, iterator: there, ..select }, 10),
+        (Frame { space: absent, ..update }, 10),
+        (Frame { key: none, ..update }, 10),
+        (Frame { tuple: none, ..update }, 10),
+        (Frame { space: absent, ..delete }, 10),
+        (Frame { key: none, ..delete }, 10),
+        (Frame { index: above, ..select }, 9),
+        (Frame { offset: above, ..select }, 9),
+        (Frame { iterator: above, ..select }, 9),
+        (Frame { index: above, limit: absent, ..select }, 9),
+        (Frame { index: above, ..update }, 9),
+        (Frame { index: above, ..delete }, 9),
+    ] {
+        gives(&Case::Write { frame: record, bytes: vec![0x90], room: 100 }, number, &format!("{record:?}"));
+    }
 }
 
 fn update(tuple: &[u8], list: &[u8], base: u64, number: u32, what: &str) {

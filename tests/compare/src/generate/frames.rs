@@ -19,12 +19,23 @@ fn code(r: &mut Random) -> u64 {
     }
 }
 
-/// A number around the greatest that a key may hold.
+/// Whether a frame of this code has the key: as often as not index, offset and iterator of a select, update or delete, nearly
+/// always a required one, else seldom.
+fn wanted(r: &mut Random, code: u64, key: u8) -> bool {
+    match (code, key) {
+        (0x01 | 0x04 | 0x05, 0x11 | 0x13 | 0x14) => r.one_in(2),
+        _ if required(code).is_some_and(|keys| keys.contains(&key)) => !r.one_in(60),
+        _ => r.one_in(8),
+    }
+}
+
+/// A number around the greatest that a key may hold, or 0, as an absent one counts.
 fn near(r: &mut Random, most: u64) -> u64 {
     match r.below(12) {
         0 => most,
         1 => most.saturating_add(1),
         2 => values::number(r) as u64,
+        3 => 0,
         _ => r.word() & most & 0xffff,
     }
 }
@@ -70,8 +81,7 @@ fn header(r: &mut Random, code: u64) -> Entries {
 fn body(r: &mut Random, code: u64) -> Entries {
     let mut entries = Vec::new();
     for (key, holds) in BODY {
-        let is_required = required(code).is_some_and(|keys| keys.contains(&key));
-        if if is_required { !r.one_in(60) } else { r.one_in(8) } {
+        if wanted(r, code, key) {
             entries.push((values::nearly_unsigned(r, key.into()), held(r, holds)));
         }
     }
@@ -205,18 +215,14 @@ pub fn record(r: &mut Random) -> Case {
     let code = code(r);
     let mut frame = raw::Frame { code, ..raw::Frame::default() };
     let mut bytes = values::value(r, 2, 6);
-    let wanted = |r: &mut Random, key: u8| match required(code) {
-        Some(keys) if keys.contains(&key) => !r.one_in(60),
-        _ => r.one_in(8),
-    };
     for (key, number) in numbers(&mut frame) {
         let Some((_, Holds::UpTo(most))) = HEADER.iter().chain(&BODY).find(|known| known.0 == key) else { continue };
-        *number = raw::Number { present: wanted(r, key), value: near(r, *most) };
+        *number = raw::Number { present: wanted(r, code, key), value: near(r, *most) };
     }
     let mut last = raw::Place::default();
     for (key, place) in places(&mut frame) {
         let Some((_, holds)) = BODY.iter().find(|known| known.0 == key) else { continue };
-        let present = wanted(r, key);
+        let present = wanted(r, code, key);
         let value = if present { held_by_writer(r, *holds) } else { vec![] };
         *place = raw::Place { present, start: bytes.len() as u64, length: value.len() as u64 };
         bytes.extend(value);
