@@ -1,12 +1,12 @@
 -- An absent number: required nowhere, told as absent, counted as 0, left out of what is written. Assumes nothing.
-use Prim.Native.Nat.{ℕ, suc}
+use Prim.Native.Nat.{ℕ}
 use mathlib.Core.Path.{_≡_, refl, sym, ap, _∙_}
 use mathlib.Core.Bool.{Bool, true, false, not, _&&_}
 use mathlib.Core.List.{List, [], _∷_}
 use mathlib.Core.Option.{Option, none, some}
 use native.Mathlib.Omega.{arith}
-use borrow.Author.Tests.{not-true, eqb-true}
-use lib.Dec.{eqb}
+use borrow.Author.Tests.{not-true, eqb-true, leb-true}
+use lib.Dec.{leb, eqb}
 use Rattle.msgpack_first_bytes.specs.Bytes.{Bytes, pick}
 use Rattle.msgpack_first_bytes.proofs.Logic.{impossible}
 use Rattle.msgpack_scalars.specs.Integer.{unsigned}
@@ -122,11 +122,11 @@ module _ {k : ℕ} {field : Frame → OptionalNumber} (key : NumberKey k field) 
   answered (stops n) = refusal [] n (λ e. refl)
   answered (maps s hs bs) =
       let A : FrameAnswer → Type 0 = Answered (keys bs) in
-      let no : (n : ℕ) → A (refuse (suc n)) = λ n. refusal (keys bs) (suc n) (λ e. absurd (omega arith)) in
-      by-given A _ (no 7) (λ c _.
-      by-given A _ (no 7) (λ needs _.
-      by-check A _ (no 8) (λ e.
-      by-check A _ (no 9) (λ _.
+      let no : (n : ℕ) → leb 1 n ≡ true → A (refuse n) = λ n h. let l = leb-true 1 n h in refusal (keys bs) n (λ e. absurd (omega arith)) in
+      by-given A _ (no 8 refl) (λ c _.
+      by-given A _ (no 8 refl) (λ needs _.
+      by-check A _ (no 9 refl) (λ e.
+      by-check A _ (no 10 refl) (λ _.
       record { told = λ z. sym (placed c s (find hs) (find bs) e) ∙ find-has bs k; counted = shown-counts c s (find hs) (find bs) }))))
 
   read-answered : (s : Bytes) → Answered (bodyKeys (apart s)) (frameRead s)

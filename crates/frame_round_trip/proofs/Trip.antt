@@ -214,18 +214,18 @@ module _ (c : ℕ) (hs bs : List Item) (room : ℕ) where
   Says (refused n) = n ≡ 0 → ⊥
   Says (written v) = Passed c hs bs room v
 
-  no : (n : ℕ) → Says (refused (suc n))
-  no n e = omega arith
+  no : (n : ℕ) → leb 1 n ≡ true → Says (refused n)
+  no n h e = let l = leb-true 1 n h in omega arith
 
   says : Says (writeItems (required c) hs bs room)
   unfolding writeItems
   says =
-      by-given Says (required c) (no 7) (λ ks known.
-      by-check Says _ (no 3) (λ sounds.
-      by-check Says _ (no 8) (λ fits.
-      by-check Says _ (no 9) (λ needed.
-      by-check Says _ (no 2) (λ short.
-      by-check Says _ (no 17) (λ roomy.
+      by-given Says (required c) (no 8 refl) (λ ks known.
+      by-check Says _ (no 4 refl) (λ sounds.
+      by-check Says _ (no 9 refl) (λ fits.
+      by-check Says _ (no 10 refl) (λ needed.
+      by-check Says _ (no 3 refl) (λ short.
+      by-check Says _ (no 18 refl) (λ roomy.
       record { ks = ks; known = known; sounds = sounds; fits = fits; needed = needed; short = leb-true _ _ short; roomy = leb-true _ _ roomy; made = refl }))))))
 
 again-written : (c : ℕ) (hs bs : List Item) (room large : ℕ) (v : Bytes) → Passed c hs bs room v → length v ≤ large → writeItems (required c) hs bs large ≡ written v

@@ -13,7 +13,7 @@ use Rattle.frame_rules.specs.declared.Needs.{Needs}
 abbrev pub knownNeeds : ℕ → List ℕ → Needs
 knownNeeds n ks = record { known = true; count = n; keys = ks }
 
--- the required keys in a room of three, 0 past the last
+-- the required keys in an array of three, 0 past the last
 unfoldable pub needsFor : Option (List ℕ) → Needs
 needsFor none = record { known = false; count = 0; keys = replicate 3 0 }
 needsFor (some ks) = knownNeeds (length ks) (ks ++ replicate (3 - length ks) 0)
