@@ -12,6 +12,7 @@ import sys
 import damaged_values
 import frame_cases
 import listing_cases
+import place_cases
 import session_cases
 import update_cases
 import values
@@ -26,7 +27,27 @@ CALLS = {
 }
 
 
+# how many fields of a line say what the call is given; words follow
+GIVEN = {"v": 2, "f": 2, "w": 4, "u": 5, "l": 2, "s": 6}
+
+
+def given(line):
+    return tuple(line.split("\t")[: GIVEN[line[0]]])
+
+
 def lines():
+    """Those of each call, then those of 02, 3/12 that do not stand among them."""
+    there = set()
+    for line in lines_by_call():
+        there.add(given(line))
+        yield line
+    for line in place_cases.lines():
+        if given(line) not in there:
+            there.add(given(line))
+            yield line
+
+
+def lines_by_call():
     path = os.path.join(os.path.dirname(__file__), "data", "msgpack.tsv")
     for line in open(path, encoding="utf-8").read().split("\n"):
         if line and not line.startswith("#"):

@@ -11,6 +11,7 @@ import sys
 import frames
 from frames import BODY, NUMBERS, PLACES, map_of, shortest
 from notation import packed, shown, unpacked
+from values import shown_place
 
 NAMES = ["sync", "schema_version", "space", "index", "limit", "offset", "iterator", "index_base"]
 SELECT = bytes.fromhex("ce0000001b8201040001" "8610cd0200110014001300" "12ceffffffff2091cd0118")
@@ -73,7 +74,7 @@ def to_read():
         path = os.path.join(os.path.dirname(__file__), "data", name + ".bin")
         s = open(path, "rb").read()
         while s:
-            number, length, _ = frames.read(s)
+            number, length, _, _ = frames.read(s)
             assert number == 0
             yield s[:length], "recorded, %s" % name
             s = s[length:]
@@ -184,7 +185,7 @@ def to_write():
         for name in list(numbers) + PLACES:
             yield {k: v for k, v in record.items() if k != name}, s, 500, "code %x without %s" % (code, name)
     for frame, what in left_out():
-        number, _, record = frames.read(frame)
+        number, _, record, _ = frames.read(frame)
         # the claim of document 02, held to on the model's side too
         assert number == 0 and frames.write(record, frame, 500)[1][5:] == frame[1:]
         yield record, frame, 500, what
@@ -252,8 +253,8 @@ def shown_record(record):
 def answer(line):
     fields = line.split("\t")
     if fields[0] == "f":
-        number, length, record = frames.read(unpacked(fields[1]))
-        return "\t".join(["f", str(number), str(length)] + shown_record(record))
+        number, length, record, place = frames.read(unpacked(fields[1]))
+        return "\t".join(["f", str(number), str(length), *shown_record(record), shown_place(place)])
     number, frame = frames.write(record_of(unpacked(fields[1])), unpacked(fields[2]), int(fields[3]))
     return "w\t%d\t%d\t%s" % (number, len(frame), shown(frame, int(fields[3])))
 

@@ -1,11 +1,12 @@
 #!/usr/bin/env python3
-"""A second reader and writer of frames, written from documents 01 (with 000 and 001) and 02 (2/12) and sharing no code with
-the library.
+"""A second reader and writer of frames, written from documents 01 (with 000 and 001) and 02 (2/12, 3/12) and sharing no code
+with the library.
 
-  read(bytes)                 -> (number, length, record)
+  read(bytes)                 -> (number, length, record, place)
   write(record, bytes, room)  -> (number, frame)
 A record is a dict: 'code' a number, and for each other name either nothing or a number, or (start, length). An absent number
-is nothing and not 0, though index, offset, iterator and index base count as 0 then.
+is nothing and not 0, though index, offset, iterator and index base count as 0 then. A place is that of the byte that spoils
+header or body, counted from the frame's first byte, or None; only 4 has one, and the writer gives none.
 """
 from values import Broken, end_of, first
 
@@ -96,12 +97,18 @@ def suits(s, key, place):
 
 
 def contents(s, at):
-    """4 to 10, on bytes that end with the frame: (number, record)."""
+    """4 to 10, on the frame's bytes from its size number to its end: (number, record, place)."""
     try:
         body_at = end_of(s, at, 16)
         end = end_of(s, body_at, 16) if body_at < len(s) else body_at
-    except Broken:
-        return 4, {}
+    except Broken as broken:
+        return 4, {}, broken.args[0]
+    number, record = judged(s, at, body_at, end)
+    return number, record, None
+
+
+def judged(s, at, body_at, end):
+    """5 to 10, on a whole header and, if bytes are left, a whole body that ends at `end`: (number, record)."""
     if end != len(s):
         return 5, {}
     header = entries(s, at)
@@ -139,16 +146,16 @@ def contents(s, at):
 def read(s):
     got = unsigned(s, 0)
     if got is None:
-        return 2, 0, {}
+        return 2, 0, {}, None
     if got == "cut":
-        return 1, 0, {}
+        return 1, 0, {}, None
     size, at = got
     if not 1 <= size <= MAX_SIZE:
-        return 3, 0, {}
+        return 3, 0, {}, None
     if at + size > len(s):
-        return 1, 0, {}
-    number, record = contents(s[: at + size], at)
-    return number, (at + size if number == 0 else 0), record
+        return 1, 0, {}, None
+    number, record, place = contents(s[: at + size], at)
+    return number, (at + size if number == 0 else 0), record, place
 
 
 def shortest(n):
@@ -210,7 +217,7 @@ def listing(s):
         return "\n".join(lines + ["end\tlong\t65536"]) + "\n"
     at = n = 0
     while at < len(s):
-        number, length, record = read(s[at:])
+        number, length, record, _ = read(s[at:])
         if number == 1:
             return "\n".join(lines + ["end\tincomplete\t%d" % (len(s) - at)]) + "\n"
         if number:

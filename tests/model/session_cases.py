@@ -2,7 +2,7 @@
 """Sessions for the program `program_cases`: lines `s`, each with a run, and the lines that must be printed.
 
 The fields of a line are the carry buffer's length; the bytes at its start, all others are 5a; the bytes to feed; the session at
-first, as offset, held and refused; and the steps. A step is `o`, opening; `r`, reset; N, a feed of the next N bytes that were
+first, as offset, held, refused and, where it has one, place; and the steps. A step is `o`, opening; `r`, reset; N, a feed of the next N bytes that were
 not taken, or of all that are left; `sN`, the same with a carry buffer that lacks its last byte.
 """
 import zlib
@@ -13,6 +13,7 @@ from frame_cases import CODES, LEAST_SELECT, SELECT, body, head, keys_of, shown_
 from listing_cases import PING, recorded, synced
 from notation import packed, unpacked
 from sessions import CARRY_ROOM, Session
+from values import shown_place
 
 ALL = 99999
 SHORT = "s%d" % ALL
@@ -39,7 +40,7 @@ def pieces(s, sizes):
         session, at = got.session, at + got.taken
         given.append(n)
     # the claim of document 02, held to on the model's side too
-    assert (seen, session.refused, session.offset) == sessions.uncut(s)
+    assert (seen, session.refused, session.offset, session.place) == sessions.uncut(s)
     return given
 
 
@@ -158,9 +159,14 @@ def runs():
     yield from rooms()
 
 
+def line(room, session, stand, s, steps, what):
+    words = " ".join(str(word) for word in session if word is not None)
+    return "\t".join(["s", str(room), packed(stand), packed(s), words, " ".join(map(str, steps)), what])
+
+
 def lines():
-    for room, session, stand, s, steps, what in runs():
-        yield "\t".join(["s", str(room), packed(stand), packed(s), "%d %d %d" % session, " ".join(map(str, steps)), what])
+    for each in runs():
+        yield line(*each)
 
 
 def sum_of(b):
@@ -169,7 +175,7 @@ def sum_of(b):
 
 def fed(got, shown):
     numbers = [got.number, "carry" if got.in_carry else "piece", got.taken, got.offset, got.length]
-    return ["s", *numbers, *shown_record(got.record), sum_of(shown), shown[:48].hex()]
+    return ["s", *numbers, *shown_record(got.record), shown_place(got.place), sum_of(shown), shown[:48].hex()]
 
 
 def step(word, session, left, carry):
@@ -195,5 +201,5 @@ def answer(line):
     for word in steps.split(" "):
         said, session, taken = step(word, session, s[at:], carry)
         at += taken
-        out.append("\t".join(map(str, [*said, *session, sum_of(carry)])))
+        out.append("\t".join(map(str, [*said, *session[:3], shown_place(session.place), sum_of(carry)])))
     return "\n".join(out)

@@ -1,11 +1,11 @@
 #!/usr/bin/env python3
-"""A second implementation of sessions, written from document 02 (1/12) on top of the reader of `frames.py`.
+"""A second implementation of sessions, written from document 02 (1/12, 3/12) on top of the reader of `frames.py`.
 
   opened(carry)                -> (number, session)
   reset()                      -> session
   feed(session, piece, carry)  -> Answer, and `carry`, a bytearray, is changed
-A session is (offset, held, refused). It knows no sizes: a frame is settled by the first of its bytes with which the reader
-answers something other than 1.
+A session is (offset, held, refused, place), the place of a refused frame or None. It knows no sizes: a frame is settled by the
+first of its bytes with which the reader answers something other than 1.
 """
 from collections import namedtuple
 
@@ -15,8 +15,8 @@ CARRY_ROOM = 60009
 UNFINISHED = 1
 SHORT_CARRY = 19
 
-Session = namedtuple("Session", "offset held refused")
-Answer = namedtuple("Answer", "number in_carry taken offset length record session")
+Session = namedtuple("Session", "offset held refused place", defaults=[None])
+Answer = namedtuple("Answer", "number in_carry taken offset length record session place", defaults=[None])
 
 
 def reset():
@@ -35,9 +35,9 @@ def settled_by(s):
     return None
 
 
-def repeated(number, session):
+def repeated(number, session, place):
     """Nothing is taken, nothing changes."""
-    return Answer(number, False, 0, session.offset, 0, {}, session)
+    return Answer(number, False, 0, session.offset, 0, {}, session, place)
 
 
 def unfinished(session, begun, piece, carry):
@@ -52,19 +52,19 @@ def settled(session, begun, piece, carry, end):
     taken = max(end - len(begun), 0)
     if begun:
         carry[len(begun) : len(begun) + taken] = piece[:taken]
-    number, length, record = frames.read((begun + piece)[:end])
+    number, length, record, place = frames.read((begun + piece)[:end])
     if number == 0:
         after = Session((session.offset + length) % 2**64, 0, 0)
     else:
-        after = Session(session.offset, end if begun else 0, number)
-    return Answer(number, number == 0 and len(begun) > 0, taken, session.offset, length, record, after)
+        after = Session(session.offset, end if begun else 0, number, place)
+    return Answer(number, number == 0 and len(begun) > 0, taken, session.offset, length, record, after, place)
 
 
 def feed(session, piece, carry):
     if len(carry) < CARRY_ROOM:
-        return repeated(SHORT_CARRY, session)
+        return repeated(SHORT_CARRY, session, None)
     if session.refused:
-        return repeated(session.refused, session)
+        return repeated(session.refused, session, session.place)
     begun = bytes(carry[: session.held])
     end = settled_by(begun + piece)
     if end is None:
@@ -78,11 +78,12 @@ def view(answer, piece, carry):
 
 
 def uncut(s):
-    """What all feeds of `s` together must show, told without a session: frames with their offsets, and the refusal or 0 with its offset."""
+    """What all feeds of `s` together must show, told without a session: frames with their offsets, and the refusal or 0 with its
+    offset and place."""
     found, at = [], 0
     while True:
-        number, length, record = frames.read(s[at:])
+        number, length, record, place = frames.read(s[at:])
         if number:
-            return found, (0 if number == UNFINISHED else number), at
+            return found, (0 if number == UNFINISHED else number), at, place
         found.append((at, s[at : at + length], record))
         at += length

@@ -8,6 +8,7 @@ import sys
 
 from notation import packed, shown, unpacked
 from updates import array_header, integer, plain, string, undo, update
+from values import shown_place
 
 BORDERS = [0, 1, 31, 32, 33, 127, 128, 129, 255, 256, 257, 32767, 32768, 32769, 65535, 65536, 65537, 2**31 - 1, 2**31, 2**31 + 1,
            2**32 - 1, 2**32, 2**32 + 1, 2**63 - 1, 2**63, 2**63 + 1, 2**64 - 2, 2**64 - 1]
@@ -174,8 +175,8 @@ def answer(line):
     _, t, s, base, room = line.split("\t")[:5]
     out = ["u"]
     for call in (update, undo):
-        number, at, b = call(unpacked(t), unpacked(s), int(base), int(room))
-        out += [str(number), str(at), str(len(b)), shown(b, int(room))]
+        number, at, b, place = call(unpacked(t), unpacked(s), int(base), int(room))
+        out += [str(number), str(at), str(len(b)), shown_place(place), shown(b, int(room))]
     return "\t".join(out)
 
 

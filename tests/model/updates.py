@@ -1,14 +1,18 @@
 #!/usr/bin/env python3
-"""A second implementation of updates and undo lists, written from document 01 and sharing no code with the library.
+"""A second implementation of updates and undo lists, written from documents 01 and 02 (3/12) and sharing no code with the
+library.
 
-  update(tuple, list, base, room) -> (number, operation, bytes)
-  undo(tuple, list, base, room)   -> (number, operation, bytes)
+  update(tuple, list, base, room) -> (number, operation, bytes, place)
+  undo(tuple, list, base, room)   -> (number, operation, bytes, place)
+A place is that of the byte that spoils the tuple (11) or the list (12), or None.
 """
 from frames import shortest
-from values import Broken, end_of, first
+from values import Broken, end_of, first, spoiled_at
 
 MAX_FIELDS, MAX_TUPLE, FIELD_DEPTH = 64, 16384, 12
 MAX_OPERATIONS, MAX_LIST = 64, 32768
+# 02, 3/12: "Here a tuple is one value to depth 13, a list to depth 14"
+TUPLE_DEPTH, LIST_DEPTH = 13, 14
 
 
 class Refused(Exception):
@@ -196,8 +200,15 @@ def run(t, s, base):
     return fields, back
 
 
+def refusal(refused, t, s):
+    """11 and 12 have a place where the tuple or the list, read as one value, is broken, whatever else is wrong with it."""
+    number, operation = refused.args
+    place = spoiled_at(t, TUPLE_DEPTH) if number == 11 else spoiled_at(s, LIST_DEPTH) if number == 12 else None
+    return number, operation, b"", place
+
+
 def deliver(b, room):
-    return (0, 0, b) if len(b) <= room else (18, 0, b"")
+    return (0, 0, b, None) if len(b) <= room else (18, 0, b"", None)
 
 
 def undo_list(back):
@@ -208,15 +219,15 @@ def update(t, s, base, room):
     try:
         return deliver(plain(run(t, s, base)[0]), room)
     except Refused as refused:
-        return refused.args[0], refused.args[1], b""
+        return refusal(refused, t, s)
 
 
 def undo(t, s, base, room):
     try:
         back = run(t, s, base)[1]
     except Refused as refused:
-        return refused.args[0], refused.args[1], b""
+        return refusal(refused, t, s)
     u = undo_list(back)
     if len(back) > MAX_OPERATIONS or len(u) > MAX_LIST:
-        return 17, 0, b""
+        return 17, 0, b"", None
     return deliver(u, room)

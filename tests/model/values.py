@@ -1,5 +1,5 @@
 #!/usr/bin/env python3
-"""A second reader of MessagePack values, written from the MessagePack specification and document 01.
+"""A second reader of MessagePack values, written from the MessagePack specification and documents 01 and 02 (3/12).
 
 It shares nothing with the Rattle code but the form of the printed lines.
 
@@ -12,7 +12,8 @@ DEPTH = 16
 
 
 class Broken(Exception):
-    """The place of the first byte that spoils a value."""
+    """The place of the first byte that spoils a value: an unused first byte, a container that goes one too deep, or the end
+    of the bytes where more were due."""
 
 
 # The specification's table of formats: first byte, last byte, name, length bytes, fixed payload.
@@ -91,6 +92,20 @@ def end_of(s, at, depth):
     return at
 
 
+def spoiled_at(s, depth):
+    """The place of the byte that spoils the value at the front of `s`, or None where it is whole."""
+    try:
+        end_of(s, 0, depth)
+    except Broken as broken:
+        return broken.args[0]
+    return None
+
+
+def shown_place(place):
+    """An absent place is printed as `-`, as an absent number of a frame is."""
+    return "-" if place is None else str(place)
+
+
 def integer(z):
     return "integer\t%d" % z if z >= 0 else "integer\t-1-%d" % (-1 - z)
 
@@ -124,11 +139,11 @@ def form_line(b):
 
 def line(text):
     s = bytes.fromhex(text)
-    try:
-        end = end_of(s, 0, DEPTH)
-    except Broken as broken:
-        return "%s\t4\t0\tbroken at\t%d" % (text, broken.args[0])
-    return "%s\t0\t%d\t%s" % (text, end, meaning(s, end))
+    place = spoiled_at(s, DEPTH)
+    if place is not None:
+        return "%s\t4\t0\tabsent\t%s" % (text, shown_place(place))
+    end = end_of(s, 0, DEPTH)
+    return "%s\t0\t%d\t%s\t%s" % (text, end, meaning(s, end), shown_place(place))
 
 
 def check(text):

@@ -10,7 +10,7 @@ use lib.Dec.{leb, eqb}
 use Rattle.msgpack_first_bytes.specs.Bytes.{Bytes, pick}
 use Rattle.msgpack_first_bytes.proofs.Logic.{impossible}
 use Rattle.msgpack_scalars.specs.Integer.{unsigned}
-use Rattle.frames.specs.declared.OptionalNumber.{OptionalNumber}
+use Rattle.msgpack_values.specs.declared.OptionalNumber.{OptionalNumber}
 use Rattle.frames.specs.declared.Place.{Place}
 use Rattle.frames.specs.declared.Frame.{Frame}
 use Rattle.frames.specs.declared.FrameAnswer.{FrameAnswer}
@@ -23,11 +23,11 @@ use Rattle.frames.specs.Keys.{optional, frameAt, nowhere, emptyFrame, headerTab
 use Rattle.frames.specs.Codes.{Code, codes, among, isError, required}
 use Rattle.frames.specs.Cascade.{given}
 use Rattle.frames.specs.Maps.{keys, has, find}
-use Rattle.frames.specs.Reading.{refuse, accept, suited, byPlaces, frameRead}
+use Rattle.frames.specs.Reading.{refuseAt, refuse, accept, suited, byPlaces, frameRead}
 use Rattle.frames.proofs.Cascade.{by-check, by-given}
 use Rattle.frame_round_trip.proofs.Items.{never, both}
 use Rattle.frame_round_trip.proofs.Trip.{round-trip}
-use Rattle.frame_absent_keys.specs.Apart.{Apart, stops, maps, apart, bodyKeys, readBy}
+use Rattle.frame_absent_keys.specs.Apart.{Apart, stopsAt, maps, apart, bodyKeys, readBy}
 use Rattle.frame_absent_keys.specs.Absent.{countsAs, MayBeAbsent, AbsentKeys}
 use Rattle.frame_absent_keys.proofs.Parts.{find-has, reads}
 
@@ -113,13 +113,13 @@ module _ {k : ℕ} {field : Frame → OptionalNumber} (key : NumberKey k field) 
   shown-counts : (c : ℕ) (s : Bytes) (f g : ℕ → Place) → field (frameAt c s f g) .value ≡ countsAs (field (frameAt c s f g))
   shown-counts c s f g = rw (key .shows c s f g) (optional-counts (numberIn s (g k)))
 
-  refusal : (ks : List ℕ) (n : ℕ) → (n ≡ 0 → false ≡ has k ks) → Answered ks (refuse n)
-  unfolding refuse emptyFrame
+  refusal : (ks : List ℕ) (n : ℕ) {p : OptionalNumber} → (n ≡ 0 → false ≡ has k ks) → Answered ks (refuseAt n p)
+  unfolding emptyFrame
   refusal ks n h = record { told = λ e. nothing ∙ h e; counted = shown-counts 0 [] (λ j. nowhere) (λ j. nowhere) }
 
   answered : (a : Apart) → Answered (bodyKeys a) (readBy required a)
-  unfolding bodyKeys readBy byPlaces has accept
-  answered (stops n) = refusal [] n (λ e. refl)
+  unfolding bodyKeys readBy byPlaces has refuse accept
+  answered (stopsAt n p) = refusal [] n (λ e. refl)
   answered (maps s hs bs) =
       let A : FrameAnswer → Type 0 = Answered (keys bs) in
       let no : (n : ℕ) → leb 1 n ≡ true → A (refuse n) = λ n h. let l = leb-true 1 n h in refusal (keys bs) n (λ e. absurd (omega arith)) in

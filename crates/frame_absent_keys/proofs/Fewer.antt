@@ -13,7 +13,9 @@ use Rattle.frames.specs.Held.{all}
 use Rattle.frames.specs.Keys.{frameAt, emptyFrame}
 use Rattle.frames.specs.Codes.{codes, among, isError, required}
 use Rattle.frames.specs.Cascade.{check, given}
-use Rattle.frames.specs.Reading.{refuse, accept}
+use Rattle.msgpack_values.specs.Spoiled.{noPlace}
+use Rattle.msgpack_values.specs.declared.OptionalNumber.{OptionalNumber}
+use Rattle.frames.specs.Reading.{refuseAt, refuse, accept}
 use Rattle.frames.specs.Writing.{Outcome, refused}
 use Rattle.frame_absent_keys.specs.Before.{requiredBefore, leavesOut, readBefore, passesTen, writtenBefore}
 
@@ -97,13 +99,17 @@ module _ (r : Frame) where
 
 -- ---- reading
 
-pub stops-same : (n : ℕ) → refuse n ≡ readBefore (refuse n)
-unfolding readBefore refuse emptyFrame frameAt leavesOut
-stops-same n = go (eqb n 0)
+pub stops-same : (n : ℕ) (p : OptionalNumber) → refuseAt n p ≡ readBefore (refuseAt n p)
+unfolding readBefore emptyFrame frameAt leavesOut
+stops-same n p = go (eqb n 0)
   where
-    go : (b : Bool) → refuse n ≡ pick (b && leavesOut emptyFrame) (refuse 10) (refuse n)
+    go : (b : Bool) → refuseAt n p ≡ pick (b && leavesOut emptyFrame) (refuse 10) (refuseAt n p)
     go true = refl
     go false = refl
+
+pub refused-same : (n : ℕ) → refuse n ≡ readBefore (refuse n)
+unfolding refuse
+refused-same n = stops-same n noPlace
 
 -- 10 and the record
 last-read : (r : Frame) (n : ℕ) (now left : Bool) → leavesOut r ≡ left
@@ -111,8 +117,8 @@ last-read : (r : Frame) (n : ℕ) (now left : Bool) → leavesOut r ≡ left
 unfolding readBefore check accept
 last-read r n true true e = rw e
 last-read r n true false e = rw e
-last-read r n false true e = stops-same 10
-last-read r n false false e = stops-same 10
+last-read r n false true e = refused-same 10
+last-read r n false false e = refused-same 10
 
 -- 8 to 10 by required keys, the answer a after them
 abbrev pub judgedBy : (ℕ → Bool) → Bool → FrameAnswer → Option (List ℕ) → FrameAnswer
@@ -125,8 +131,8 @@ read-fewer r n p suits agrees = go (fewer r) suits refl
   where
     go : Fewer r → (t : Bool) → suits ≡ t
         → judgedBy p t (accept n r) (requiredBefore (r .code)) ≡ readBefore (judgedBy p t (accept n r) (required (r .code)))
-    go (unknown a b) t e = rw (a, b) (stops-same 8)
-    go (known before now a b same) false e = rw (a, b) (stops-same 9)
+    go (unknown a b) t e = rw (a, b) (refused-same 8)
+    go (known before now a b same) false e = rw (a, b) (refused-same 9)
     go (known before now a b same) true e = rw (a, b, same p (agrees e)) (last-read r n (all p now) (leavesOut r) refl)
 
 -- ---- writing

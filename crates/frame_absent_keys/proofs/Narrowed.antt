@@ -15,10 +15,10 @@ use Rattle.frames.specs.Cascade.{check, given}
 use Rattle.frames.specs.Maps.{Entry, keys, find}
 use Rattle.frames.specs.Reading.{refuse, accept, suited, byPlaces}
 use Rattle.frames.specs.Writing.{refused, written, writeItems, frameWrite}
-use Rattle.frame_absent_keys.specs.Apart.{Apart, stops, maps, apart, readBy}
+use Rattle.frame_absent_keys.specs.Apart.{Apart, stopsAt, maps, apart, readBy}
 use Rattle.frame_absent_keys.specs.Before.{requiredBefore, readBefore, passesTen, Narrowed}
 use Rattle.frame_absent_keys.proofs.Parts.{reads}
-use Rattle.frame_absent_keys.proofs.Fewer.{Agrees, stops-same, judgedBy, read-fewer, written-fewer}
+use Rattle.frame_absent_keys.proofs.Fewer.{Agrees, stops-same, refused-same, judgedBy, read-fewer, written-fewer}
 use Rattle.frame_absent_keys.proofs.Absence.{placed, holds-present, index, offset, iterator}
 
 -- ---- reading
@@ -40,11 +40,11 @@ module _ (s : Bytes) (hs bs : List Entry) where
           (accept (length s) (frameAt code s (find hs) (find bs))) (needed code))
 
       go : (o : Option ℕ) → by requiredBefore o ≡ readBefore (by required o)
-      go none = unfold given in stops-same 8
+      go none = unfold given in refused-same 8
       go (some c) = unfold given in read-fewer (frameAt c s (find hs) (find bs)) (length s) _ _ (entries-agree c)
 
 apart-before : (a : Apart) → readBy requiredBefore a ≡ readBefore (readBy required a)
-apart-before (stops n) = unfold readBy in stops-same n
+apart-before (stopsAt n p) = unfold readBy in stops-same n p
 apart-before (maps s hs bs) = maps-before s hs bs
 
 -- ---- writing

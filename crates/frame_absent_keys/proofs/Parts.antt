@@ -15,8 +15,8 @@ use Rattle.frames.specs.declared.Size.the-variants.{Promises, Refused}
 use Rattle.frames.specs.Codes.{required}
 use Rattle.frames.specs.Cascade.{check, given, whole}
 use Rattle.frames.specs.Maps.{Entry, keys, has, placed, find}
-use Rattle.frames.specs.Reading.{refuse, byPlaces, byEntries, inFrame, sizeOf, bySize, frameRead}
-use Rattle.frame_absent_keys.specs.Apart.{Apart, stops, maps, contentsApart, apartBy, apart, readBy}
+use Rattle.frames.specs.Reading.{refuse, byPlaces, byEntries, broken, inFrame, sizeOf, bySize, frameRead}
+use Rattle.frame_absent_keys.specs.Apart.{Apart, stops, breaks, maps, contentsApart, apartBy, apart, readBy}
 
 pub find-has : (es : List Entry) (k : ℕ) → find es k .present ≡ has k (keys es)
 unfolding find has keys
@@ -31,7 +31,10 @@ record Reads (a : Apart) (r : FrameAnswer) : Type 0 where
   is : readBy required a ≡ r
 
 stopped : (n : ℕ) → Reads (stops n) (refuse n)
-stopped n = record { is = unfold readBy in refl }
+stopped n = record { is = unfold readBy refuse in refl }
+
+spoiled : (s : Bytes) (at : ℕ) → Reads (breaks s at) (broken s at)
+spoiled s at = record { is = unfold readBy broken in refl }
 
 taken : (s : Bytes) (hs bs : List Entry) → Reads (maps s hs bs) (byPlaces required s (find hs) (find bs))
 taken s hs bs = record { is = unfold readBy in refl }
@@ -57,8 +60,8 @@ whole-alike (Broken n) p q = p
 in-frame : (s : Bytes) (at : ℕ) → Reads (contentsApart s at) (inFrame s at)
 unfolding contentsApart inFrame byEntries
 in-frame s at =
-    whole-alike _ (stopped 4) (λ h.
-    whole-alike _ (stopped 4) (λ b.
+    whole-alike _ (spoiled s at) (λ h.
+    whole-alike _ (spoiled s (at + h)) (λ b.
     check-alike _ (stopped 5) (
     given-alike _ (stopped 6) (λ hs.
     given-alike _ (stopped 6) (λ bs.

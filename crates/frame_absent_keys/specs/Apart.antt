@@ -8,24 +8,33 @@ use lib.Dec.{leb, eqb}
 use lib.ListN.{length, take, drop}
 use Rattle.msgpack_first_bytes.specs.Bytes.{Bytes}
 use Rattle.msgpack_values.specs.Value.{value}
+use Rattle.msgpack_values.specs.Spoiled.{noPlace}
+use Rattle.msgpack_values.specs.declared.OptionalNumber.{OptionalNumber}
 use Rattle.frames.specs.declared.FrameAnswer.{FrameAnswer}
 use Rattle.frames.specs.declared.Size.{Size}
 use Rattle.frames.specs.declared.Size.the-variants.{Promises, Refused}
 use Rattle.frames.specs.Limits.{maxDepth, heldDepth}
 use Rattle.frames.specs.Cascade.{check, given, whole}
 use Rattle.frames.specs.Maps.{Entry, entriesAt, keys, distinct, find}
-use Rattle.frames.specs.Reading.{refuse, byPlaces, bodyValue, bodyEntries, sizeOf}
+use Rattle.frames.specs.Reading.{refuseAt, byPlaces, bodyValue, bodyEntries, broken, sizeOf}
 
--- the number of a refusal, or the frame's bytes with the entries of its header and its body
+-- the number of a refusal and its place, or the frame's bytes with the entries of its header and its body
 pub data Apart : Type 0 where
-  stops : ℕ → Apart
+  stopsAt : ℕ → OptionalNumber → Apart
   maps : Bytes → List Entry → List Entry → Apart
+
+abbrev pub stops : ℕ → Apart
+stops n = stopsAt n noPlace
+
+-- header or body at `at` is broken
+abbrev pub breaks : Bytes → ℕ → Apart
+breaks s at = stopsAt 4 (broken s at .place)
 
 -- s is one frame, its header from `at` on
 unfoldable pub contentsApart : Bytes → ℕ → Apart
 contentsApart s at =
-    whole (stops 4) (value maxDepth (drop at s)) (λ h.
-    whole (stops 4) (bodyValue (drop (at + h) s)) (λ b.
+    whole (breaks s at) (value maxDepth (drop at s)) (λ h.
+    whole (breaks s (at + h)) (bodyValue (drop (at + h) s)) (λ b.
     check (stops 5) (eqb (at + h + b) (length s))
     (given (stops 6) (entriesAt heldDepth s at) (λ hs.
     given (stops 6) (bodyEntries s (at + h) (drop (at + h) s)) (λ bs.
@@ -42,10 +51,10 @@ apart s = apartBy s (sizeOf s)
 
 -- the keys that stand in its body
 unfoldable pub bodyKeys : Apart → List ℕ
-bodyKeys (stops n) = []
+bodyKeys (stopsAt n p) = []
 bodyKeys (maps s hs bs) = keys bs
 
 -- 8 to 10, and the record, by what each code requires
 unfoldable pub readBy : (ℕ → Option (List ℕ)) → Apart → FrameAnswer
-readBy needed (stops n) = refuse n
+readBy needed (stopsAt n p) = refuseAt n p
 readBy needed (maps s hs bs) = byPlaces needed s (find hs) (find bs)

@@ -1,8 +1,8 @@
 // What a frame holds under its known keys, looked up in the tables of its header and body.
 use frames::Frame;
-use frames::OptionalNumber;
 use frames::Place;
 use msgpack_scalars::Natural;
+use msgpack_values::OptionalNumber;
 ghost use mathlib.Core.Path.{_≡_};
 ghost use Prim.Native.Nat.{ℕ};
 ghost use Rattle.msgpack_scalars.specs.Integer.{unsigned};

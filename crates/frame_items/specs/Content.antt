@@ -7,7 +7,7 @@ use lib.Dec.{leb}
 use lib.ListN.{length, getD}
 use Rattle.msgpack_first_bytes.specs.Bytes.{Bytes, pick}
 use Rattle.frames.specs.declared.Frame.{Frame}
-use Rattle.frames.specs.declared.OptionalNumber.{OptionalNumber}
+use Rattle.msgpack_values.specs.declared.OptionalNumber.{OptionalNumber}
 use Rattle.frames.specs.declared.Place.{Place}
 use Rattle.frames.specs.declared.Rule.the-variants.{Anything}
 use Rattle.frames.specs.Limits.{maxSize}

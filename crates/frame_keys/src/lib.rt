@@ -2,8 +2,8 @@
 use frame_items::Content;
 use frame_items::KnownKey;
 use frames::Frame;
-use frames::OptionalNumber;
 use frames::Place;
+use msgpack_values::OptionalNumber;
 ghost use mathlib.Core.Path.{_≡_};
 ghost use Rattle.frame_items.specs.Content.{numberContent, placeContent, contentAt, knownKeyAt};
 

@@ -1,28 +1,27 @@
 -- The first line, by what stands first, and how long it is. Assumes nothing.
 use mathlib.Core.Path.{_≡_, refl, sym, ap, _∙_}
-use mathlib.Core.Bool.{Bool, true, false, _&&_}
-use mathlib.Core.List.{List, [], _∷_, _++_, append-assoc, append-nil}
+use mathlib.Core.Bool.{Bool, true, false}
+use mathlib.Core.List.{[], _∷_, _++_, append-assoc, append-nil}
 use Prim.Native.Nat.{ℕ, zero, suc, _+_, _-_, _*_, _^_, _<_, _≤_}
 use native.Mathlib.Omega.{arith}
 use borrow.Author.Tests.{eq-eqb, ne-eqb}
-use lib.Dec.{T, leb, leb→le, eqb}
 use lib.ListN.{length, take, drop, length-append}
 use Rattle.msgpack_first_bytes.specs.Bytes.{Bytes, pick}
-use Rattle.msgpack_first_bytes.proofs.Range.{both, both-left, both-right}
 use Rattle.msgpack_writing.specs.Put.{put, next}
 use Rattle.msgpack_writing.proofs.Put.{wrote, through}
 use Rattle.frames.specs.Codes.{isError}
 use Rattle.frames.specs.Reading.{frameRead}
-use Rattle.frames.specs.declared.OptionalNumber.{OptionalNumber}
+use Rattle.msgpack_values.specs.declared.OptionalNumber.{OptionalNumber}
 use Rattle.frames.specs.declared.FrameAnswer.{FrameAnswer}
 use Rattle.frame_listing_fields.specs.Text.{text, decimal}
-use Rattle.frame_listing_fields.specs.Names.{Name, names, nameIn, kindOf}
+use Rattle.frame_listing_fields.specs.Names.{names, nameIn, kindOf}
 use Rattle.frame_listing.specs.Listing.{maxInput, frameLine, lastLine, refusedLine, lines}
 use Rattle.frame_listing_fields.specs.Sync.{syncText}
 use Rattle.frame_listing_fields.specs.Steps.{ended}
 use Rattle.frame_listing.specs.Steps.{after, most, First}
 use Rattle.frame_listing.specs.declared.Line.{Line}
 use Rattle.frame_listing_fields.proofs.Decimal.{few}
+use Rattle.frame_listing_fields.proofs.Names.{short, name-short}
 use Rattle.frame_listing.proofs.Within.{Within, frame-within}
 
 -- room from the front on
@@ -59,22 +58,9 @@ refused-first n (b ∷ t) a e h z = rw (sym e, ne-eqb (a .number) 0 z)
 
 -- ---- how long it is
 
-short : List Name → Bool
-short [] = true
-short (x ∷ xs) = both (leb (length (text (x .name))) 7) (short xs)
-
-name-short : (xs : List Name) (c : ℕ) → T (short xs) → length (nameIn xs c) ≤ 7
-unfolding nameIn short
-name-short [] c t = omega arith
-name-short (x ∷ xs) c t = go (eqb c (x .code)) (name-short xs c (both-right (leb (length (text (x .name))) 7) (short xs) t))
-  where
-    go : (b : Bool) → length (nameIn xs c) ≤ 7 → length (pick b (text (x .name)) (nameIn xs c)) ≤ 7
-    go true r = leb→le _ 7 (both-left (leb (length (text (x .name))) 7) (short xs) t)
-    go false r = r
-
 kind-short : (c : ℕ) → length (kindOf c) ≤ 7
 unfolding kindOf names short
-kind-short c = go (isError c) (name-short names c tt)
+kind-short c = go (isError c) (name-short 7 names c tt)
   where
     go : (b : Bool) → length (nameIn names c) ≤ 7 → length (pick b (text "error") (nameIn names c)) ≤ 7
     go true r = omega arith

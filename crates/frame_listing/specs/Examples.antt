@@ -16,7 +16,7 @@ use Rattle.frames.specs.Keys.{headerItems, bodyItems, optional, codeIn, frameAt
 use Rattle.frames.specs.Codes.{codes, among, isError, required}
 use Rattle.frames.specs.Maps.{keyed, entryAt, entries, entriesBy, entriesAt, keys, has, distinct, find}
 use Rattle.frames.specs.Cascade.{check, given, whole}
-use Rattle.frames.specs.Reading.{refuse, accept, suited, byPlaces, byEntries, bodyValue, bodyEntries, inFrame, sizeBy, sizeOf, bySize, frameRead}
+use Rattle.frames.specs.Reading.{refuse, accept, suited, byPlaces, byEntries, bodyValue, bodyEntries, broken, inFrame, sizeBy, sizeOf, bySize, frameRead}
 use Rattle.frame_listing_fields.specs.Text.{text, digits, decimal}
 use Rattle.frame_listing_fields.specs.Names.{names, nameIn, kindOf}
 use Rattle.frame_listing_fields.specs.Sync.{syncText}
@@ -30,7 +30,7 @@ select =
 
 -- "For that select and one more byte `ce`, whole"
 as-in-01 : listing (select ++ (0xce ∷ [])) ≡ text "frame\tkind\tsync\tbytes\n1\tselect\t4\t32\nend\tincomplete\t1\n"
-unfolding listing lines refusedLine lastLine frameLine syncText heading kindOf nameIn names decimal digits frameRead bySize sizeOf sizeBy inFrame bodyEntries bodyValue byEntries byPlaces suited accept refuse whole given check find distinct has keys entriesAt entriesBy entries entryAt keyed required isError among codes emptyFrame frameAt codeIn optional headerItems bodyItems numberHeld placeHeld heldAt valueHeld numberOrBytes suits isHeader numberIn asNumber view all value one container tooDeep byForm items sized payload sum formOf sameKind unsigned unsignedBy due dueIn naturalOf header counted
+unfolding listing lines refusedLine lastLine frameLine syncText heading kindOf nameIn names decimal digits frameRead bySize sizeOf sizeBy inFrame broken bodyEntries bodyValue byEntries byPlaces suited accept refuse whole given check find distinct has keys entriesAt entriesBy entries entryAt keyed required isError among codes emptyFrame frameAt codeIn optional headerItems bodyItems numberHeld placeHeld heldAt valueHeld numberOrBytes suits isHeader numberIn asNumber view all value one container tooDeep byForm items sized payload sum formOf sameKind unsigned unsignedBy due dueIn naturalOf header counted
 as-in-01 = refl
 
 -- input, and the lines after the first
@@ -61,7 +61,7 @@ cases =
     ∷ []
 
 examples : map (λ (c : Case). listing (c .input)) cases ≡ map (λ (c : Case). heading ++ text (c .lines)) cases
-unfolding listing lines refusedLine lastLine frameLine syncText heading kindOf nameIn names decimal digits frameRead bySize sizeOf sizeBy inFrame bodyEntries bodyValue byEntries byPlaces suited accept refuse whole given check find distinct has keys entriesAt entriesBy entries entryAt keyed required isError among codes emptyFrame frameAt codeIn optional headerItems bodyItems numberHeld placeHeld heldAt valueHeld numberOrBytes suits isHeader numberIn asNumber view all value one container tooDeep byForm items sized payload sum formOf sameKind unsigned unsignedBy due dueIn naturalOf header counted
+unfolding listing lines refusedLine lastLine frameLine syncText heading kindOf nameIn names decimal digits frameRead bySize sizeOf sizeBy inFrame broken bodyEntries bodyValue byEntries byPlaces suited accept refuse whole given check find distinct has keys entriesAt entriesBy entries entryAt keyed required isError among codes emptyFrame frameAt codeIn optional headerItems bodyItems numberHeld placeHeld heldAt valueHeld numberOrBytes suits isHeader numberIn asNumber view all value one container tooDeep byForm items sized payload sum formOf sameKind unsigned unsignedBy due dueIn naturalOf header counted
 examples = refl
 
 -- input that is too long, whatever it is

@@ -2,7 +2,7 @@
 use frame_listing_fields::write_kind;
 use frame_listing_fields::write_number;
 use frame_listing_fields::write_sync;
-use frames::OptionalNumber;
+use msgpack_values::OptionalNumber;
 use msgpack_writing::write_bytes;
 ghost use mathlib.Core.Path.{_≡_};
 ghost use mathlib.Core.List.{_++_};

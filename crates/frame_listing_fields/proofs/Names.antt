@@ -1,4 +1,4 @@
--- The name of each code, as a match finds it. Assumes nothing.
+-- The name of each code, as a match finds it, and how long a name is. Assumes nothing.
 use mathlib.Core.Path.{_≡_, refl}
 use mathlib.Core.List.{List, [], _∷_, map}
 use mathlib.Core.Bool.{Bool, true, false}
@@ -6,9 +6,11 @@ use mathlib.Core.Option.{none, some}
 use Prim.Native.Nat.{ℕ, _<_, _≤_}
 use native.Mathlib.Omega.{arith}
 use borrow.Author.Tests.{le-leb}
-use lib.Dec.{eqb}
+use lib.Dec.{T, leb, leb→le, eqb}
+use lib.ListN.{length}
 use Rattle.msgpack_first_bytes.specs.Bytes.{pick}
 use Rattle.msgpack_first_bytes.proofs.Logic.{impossible}
+use Rattle.msgpack_first_bytes.proofs.Range.{both, both-left, both-right}
 use Rattle.frames.specs.Codes.{Code, codes, among, isError, required}
 use Rattle.frame_listing_fields.specs.Text.{text}
 use Rattle.frame_listing_fields.specs.Names.{Name, names, nameIn, kindOf}
@@ -38,3 +40,19 @@ no-name c h = go (isError c) h
     go : (b : Bool) → pick b (some (0x31 ∷ [])) (among c codes) ≡ none → pick b (text "error") (nameIn names c) ≡ []
     go true h = impossible (cc)
     go false h = alike c names codes refl h
+
+-- ---- how long a name is
+
+-- no name of a table has more than m bytes: a test
+unfoldable pub short : ℕ → List Name → Bool
+short m [] = true
+short m (x ∷ xs) = both (leb (length (text (x .name))) m) (short m xs)
+
+pub name-short : (m : ℕ) (xs : List Name) (c : ℕ) → T (short m xs) → length (nameIn xs c) ≤ m
+unfolding nameIn short
+name-short m [] c t = omega arith
+name-short m (x ∷ xs) c t = go (eqb c (x .code)) (name-short m xs c (both-right (leb (length (text (x .name))) m) (short m xs) t))
+  where
+    go : (b : Bool) → length (nameIn xs c) ≤ m → length (pick b (text (x .name)) (nameIn xs c)) ≤ m
+    go true r = leb→le _ m (both-left (leb (length (text (x .name))) m) (short m xs) t)
+    go false r = r

@@ -1,5 +1,5 @@
 // The fields of the lines of a listing, each written into the rest of a lent buffer.
-use frames::OptionalNumber;
+use msgpack_values::OptionalNumber;
 use msgpack_writing::write_bytes;
 ghost use mathlib.Core.Path.{_≡_};
 ghost use mathlib.Core.List.{_++_};

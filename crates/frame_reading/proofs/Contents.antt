@@ -20,7 +20,7 @@ use Rattle.frames.specs.Limits.{maxSize, maxDepth, heldDepth}
 use Rattle.frames.specs.Maps.{entriesAt}
 use Rattle.frames.specs.Cascade.{check, whole}
 use Rattle.frames.proofs.Sizes.{Told, size-told}
-use Rattle.frames.specs.Reading.{refuse, byEntries, bodyValue, bodyEntries, inFrame, sizeBy, sizeOf, bySize, frameRead}
+use Rattle.frames.specs.Reading.{refuse, broken, byEntries, bodyValue, bodyEntries, inFrame, sizeBy, sizeOf, bySize, frameRead}
 use Rattle.frame_reading.specs.Steps.{bodyAt, entriesIn}
 use Rattle.frame_reading.specs.declared.Body.the-variants.{At, Missing}
 
@@ -61,23 +61,23 @@ span s at end h =
     let p = value-pos maxDepth (drop at s) n q in
     record { size = n; is = q; to = e; inside = omega arith }
 
-broken : (s : Bytes) (at p : ℕ) → Broken p ≡ shift at (value maxDepth (drop at s)) → (q : ℕ) × (value maxDepth (drop at s) ≡ Broken q)
-broken s at p h = go (value maxDepth (drop at s)) refl h
+unshifted : (s : Bytes) (at p : ℕ) → Broken p ≡ shift at (value maxDepth (drop at s)) → (q : ℕ) × (value maxDepth (drop at s) ≡ Broken q)
+unshifted s at p h = go (value maxDepth (drop at s)) refl h
   where
     go : (r : Read) → value maxDepth (drop at s) ≡ r → Broken p ≡ shift at r → (q : ℕ) × (value maxDepth (drop at s) ≡ Broken q)
     go (Whole n) e h = impossible cc
     go (Broken q) e h = (q, e)
 
 module _ (s : Bytes) (at : ℕ) where
-  pub no-header : (p : ℕ) → Broken p ≡ shift at (value maxDepth (drop at s)) → refuse 4 ≡ inFrame s at
+  pub no-header : (p : ℕ) → Broken p ≡ shift at (value maxDepth (drop at s)) → broken s at ≡ inFrame s at
   unfolding inFrame whole
-  no-header p h = rw (broken s at p h .1)
+  no-header p h = rw (unshifted s at p h .1)
 
   module _ (end : ℕ) (h : Whole end ≡ shift at (value maxDepth (drop at s))) where
     -- what comes after the header
     after : FrameAnswer
     after =
-        whole (refuse 4) (bodyValue (drop end s)) (λ b. check (refuse 5) (eqb (end + b) (length s))
+        whole (broken s end) (bodyValue (drop end s)) (λ b. check (refuse 5) (eqb (end + b) (length s))
         (byEntries s (entriesAt heldDepth s at) (bodyEntries s end (drop end s))))
 
     header-whole : inFrame s at ≡ after
@@ -97,9 +97,9 @@ module _ (s : Bytes) (at : ℕ) where
       unfolding bodyValue bodyEntries
       body-is = rw (drop-cons s end 0 l) (refl, refl)
 
-      pub bad-body : (p : ℕ) → Broken p ≡ shift end (value maxDepth (drop end s)) → refuse 4 ≡ inFrame s at
+      pub bad-body : (p : ℕ) → Broken p ≡ shift end (value maxDepth (drop end s)) → broken s end ≡ inFrame s at
       unfolding after whole
-      bad-body p q = sym (header-whole ∙ rw (body-is .0, broken s end p q .1))
+      bad-body p q = sym (header-whole ∙ rw (body-is .0, unshifted s end p q .1))
 
       body-whole : (last : ℕ) → (q : Whole last ≡ shift end (value maxDepth (drop end s)))
           → inFrame s at ≡ check (refuse 5) (eqb last (length s)) (byEntries s (entriesAt heldDepth s at) (entriesAt heldDepth s end))

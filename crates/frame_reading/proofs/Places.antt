@@ -7,7 +7,8 @@ use Prim.Native.Nat.{ℕ}
 use lib.Dec.{eqb}
 use lib.ListN.{length, replicate}
 use Rattle.msgpack_first_bytes.specs.Bytes.{Bytes, pick}
-use Rattle.frames.specs.declared.OptionalNumber.{OptionalNumber}
+use Rattle.msgpack_values.specs.Spoiled.{noPlace}
+use Rattle.msgpack_values.specs.declared.OptionalNumber.{OptionalNumber}
 use Rattle.frames.specs.declared.Place.{Place}
 use Rattle.frames.specs.declared.Frame.{Frame}
 use Rattle.frames.specs.declared.FrameAnswer.{FrameAnswer}
@@ -67,7 +68,7 @@ module _ {s : Bytes} {f g : ℕ → Place} {c : ℕ} {ks : List ℕ} {b : Bool} 
     unfolding byPlaces given check
     not-all-there q = rw (j .coded, j .known, ← (j .nine), e, ← h, q)
 
-    pub accepted : t ≡ true → {r : Frame} → r ≡ frameAt c s f g → _≡_ {A = FrameAnswer} (record { number = 0; length = length s; frame = r }) (byPlaces required s f g)
+    pub accepted : t ≡ true → {r : Frame} → r ≡ frameAt c s f g → _≡_ {A = FrameAnswer} (record { number = 0; length = length s; frame = r; place = noPlace }) (byPlaces required s f g)
     unfolding byPlaces given check accept
     accepted q p = rw (j .coded, j .known, ← (j .nine), e, ← h, q, p)
 

@@ -1,17 +1,17 @@
 // Reading a frame: the size number, then header and body, each refusal in document 01's order.
 use frames::Frame;
 use frames::FrameAnswer;
-use frames::OptionalNumber;
 use frames::Place;
 use frames::Size;
 use msgpack_scalars::Natural;
+use msgpack_values::OptionalNumber;
 use msgpack_values::Read;
 ghost use mathlib.Core.Path.{_≡_};
 ghost use Rattle.frames.specs.Codes.{required};
 ghost use Rattle.frames.specs.Keys.{emptyFrame};
 ghost use Rattle.frames.specs.Limits.{heldDepth};
 ghost use Rattle.frames.specs.Maps.{entriesAt};
-ghost use Rattle.frames.specs.Reading.{refuse, byPlaces, byEntries, inFrame, sizeOf, frameRead};
+ghost use Rattle.frames.specs.Reading.{refuseAt, refuse, byPlaces, byEntries, inFrame, sizeOf, frameRead};
 ghost use Rattle.frame_tables.specs.Tables.{table, tabledOn, placeIn};
 ghost use Rattle.frame_reading.specs.Steps.{bodyAt, entriesIn};
 
@@ -73,14 +73,21 @@ pub fn empty_frame() -> Frame
     }
 }
 
-pub fn refused(number: u32) -> FrameAnswer
-    ensures { λ r. ⌜ r ≡ refuse number ⌝ }
+fn refused_at(number: u32, place: OptionalNumber) -> FrameAnswer
+    ensures { λ r. ⌜ r ≡ refuseAt number place ⌝ }
 {
     FrameAnswer {
         number,
         length: 0,
         frame: empty_frame(),
+        place,
     }
+}
+
+pub fn refused(number: u32) -> FrameAnswer
+    ensures { λ r. ⌜ r ≡ refuse number ⌝ }
+{
+    refused_at(number, msgpack_values::NO_PLACE)
 }
 
 // 8 to 10, by where each key's value stands in the header and in the body.
@@ -123,6 +130,7 @@ fn by_places(
         number: 0,
         length: s.len(),
         frame,
+        place: msgpack_values::NO_PLACE,
     }
 }
 
@@ -170,14 +178,16 @@ fn judge(s: &[u8], at: usize, body: Body) -> FrameAnswer
 pub fn read_contents(s: &[u8], at: usize) -> FrameAnswer
     ensures { λ r. ⌜ r ≡ inFrame (now (s .entry)) at ⌝ }
 {
-    let Read::Whole(end) = msgpack_values::read_value(s, at, frames::MAX_DEPTH) else {
-        return refused(4);
+    let header = msgpack_values::read_value(s, at, frames::MAX_DEPTH);
+    let Read::Whole(end) = header else {
+        return refused_at(4, msgpack_values::place_of(header));
     };
     let Body::At(from) = body_at(s, end) else {
         return judge(s, at, Body::Missing);
     };
-    let Read::Whole(last) = msgpack_values::read_value(s, from, frames::MAX_DEPTH) else {
-        return refused(4);
+    let body = msgpack_values::read_value(s, from, frames::MAX_DEPTH);
+    let Read::Whole(last) = body else {
+        return refused_at(4, msgpack_values::place_of(body));
     };
     if last < s.len() {
         return refused(5);

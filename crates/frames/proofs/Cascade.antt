@@ -18,7 +18,7 @@ module _ {A : Type 0} (P : A → Type 0) {refusal : A} where
   by-given none p q = p
   by-given (some a) p q = q a refl
 
-  pub by-whole : {next : ℕ → A} (x : Read) → P refusal → ((k : ℕ) → x ≡ Whole k → P (next k)) → P (whole refusal x next)
+  pub by-whole : {next : ℕ → A} (x : Read) → ((k : ℕ) → x ≡ Broken k → P refusal) → ((k : ℕ) → x ≡ Whole k → P (next k)) → P (whole refusal x next)
   unfolding whole
   by-whole (Whole k) p q = q k refl
-  by-whole (Broken k) p q = p
+  by-whole (Broken k) p q = p k refl

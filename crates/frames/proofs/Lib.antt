@@ -4,3 +4,4 @@ pub mod Pairs
 pub mod Cascade
 pub mod Sizes
 pub mod Judged
+pub mod Placed

@@ -9,10 +9,11 @@ use Rattle.msgpack_first_bytes.specs.FirstByte.{formOf, sameKind}
 use Rattle.msgpack_numbers.specs.Number.{number as sum}
 use Rattle.msgpack_values.specs.Value.{value, one, container, tooDeep, byForm, items, sized, payload}
 use Rattle.msgpack_values.specs.Pieces.{joined}
+use Rattle.msgpack_values.specs.Spoiled.{noPlace, atPlace, spoiledAt}
 use Rattle.msgpack_scalars.specs.Integer.{dueIn, due, naturalOf, unsignedBy, unsigned}
 use Rattle.msgpack_scalars.specs.Header.{counted, header}
 use Rattle.msgpack_writing.specs.Forms.{bigEndian, unsignedForm, mapHeader}
-use Rattle.frames.specs.declared.OptionalNumber.{OptionalNumber}
+use Rattle.msgpack_values.specs.declared.OptionalNumber.{OptionalNumber}
 use Rattle.frames.specs.declared.Place.{Place}
 use Rattle.frames.specs.declared.Frame.{Frame}
 use Rattle.frames.specs.Held.{all, view, asNumber, numberIn, isHeader, suits, numberOrBytes, valueHeld, heldAt, numberHeld, placeHeld, encoded, isSome, locate}
@@ -20,7 +21,7 @@ use Rattle.frames.specs.Keys.{headerItems, bodyItems, optional, codeIn, 
 use Rattle.frames.specs.Codes.{codes, among, isError, required}
 use Rattle.frames.specs.Maps.{keyed, entryAt, entries, entriesBy, entriesAt, keys, has, distinct, placed, find}
 use Rattle.frames.specs.Cascade.{check, given, whole}
-use Rattle.frames.specs.Reading.{refuse, accept, suited, byPlaces, byEntries, bodyValue, bodyEntries, inFrame, sizeBy, sizeOf, bySize, frameRead}
+use Rattle.frames.specs.Reading.{refuse, accept, suited, byPlaces, byEntries, bodyValue, bodyEntries, broken, inFrame, sizeBy, sizeOf, bySize, frameRead}
 use Rattle.frames.specs.Writing.{onto, pairs, flat, mapForm, contents, frameForm, isWhole, sound, each, refused, written, writeItems, frameWrite}
 
 -- bytes, and the number that reading them answers
@@ -129,8 +130,53 @@ cases =
     ∷ []
 
 examples : map (λ (c : Case). frameRead (c .bytes) .number) cases ≡ map (λ (c : Case). c .number) cases
-unfolding frameRead bySize sizeOf sizeBy inFrame bodyEntries bodyValue byEntries byPlaces suited accept refuse whole given check find distinct has keys entriesAt entriesBy entries entryAt keyed required isError among codes emptyFrame frameAt codeIn optional headerItems bodyItems numberHeld placeHeld heldAt valueHeld numberOrBytes suits isHeader numberIn asNumber view all value one container tooDeep byForm items sized payload sum formOf sameKind unsigned unsignedBy due dueIn naturalOf header counted
+unfolding frameRead bySize sizeOf sizeBy inFrame broken bodyEntries bodyValue byEntries byPlaces suited accept refuse whole given check find distinct has keys entriesAt entriesBy entries entryAt keyed required isError among codes emptyFrame frameAt codeIn optional headerItems bodyItems numberHeld placeHeld heldAt valueHeld numberOrBytes suits isHeader numberIn asNumber view all value one container tooDeep byForm items sized payload sum formOf sameKind unsigned unsignedBy due dueIn naturalOf header counted
 examples = refl
+
+-- ---- "A frame refused with 4 gives that place, counted from the frame's start"
+
+-- bytes, and the place that reading them answers
+record Spoiled : Type 0 where
+  bytes : Bytes
+  place : OptionalNumber
+
+abbrev at : Bytes → ℕ → Spoiled
+at s p = record { bytes = s; place = atPlace p }
+
+abbrev nothing : Bytes → Spoiled
+nothing s = record { bytes = s; place = noPlace }
+
+abbrev spoiled : List Spoiled
+spoiled =
+    -- the header's first byte, after a size number of one byte, of five and of nine
+    at (framed (0xc1 ∷ [])) 1
+    ∷ at (0xce ∷ 0x00 ∷ 0x00 ∷ 0x00 ∷ 0x02 ∷ 0xc1 ∷ 0xc1 ∷ []) 5
+    ∷ at (0xcf ∷ 0x00 ∷ 0x00 ∷ 0x00 ∷ 0x00 ∷ 0x00 ∷ 0x00 ∷ 0x00 ∷ 0x01 ∷ 0xc1 ∷ []) 9
+    -- the end of the frame that its size promises, though more bytes are lent; also where an unused one stands next
+    ∷ at (framed (0x81 ∷ 0x00 ∷ []) ++ (0x40 ∷ 0x80 ∷ [])) 3
+    ∷ at (framed (0x81 ∷ 0x00 ∷ []) ++ (0xc1 ∷ [])) 3
+    ∷ at (framed (0xa3 ∷ 0x61 ∷ []) ++ (0x62 ∷ [])) 3
+    ∷ at (framed (ping ++ (0x81 ∷ 0x50 ∷ 0xa3 ∷ 0x61 ∷ [])) ++ ping) 8
+    -- in the body, and the container that goes one too deep, in either
+    ∷ at (framed (ping ++ (0x81 ∷ 0x50 ∷ 0xc1 ∷ []))) 6
+    ∷ at (framed (0x82 ∷ 0x00 ∷ 0x40 ∷ 0x50 ∷ deep (0x91 ∷ 0x90 ∷ []))) 20
+    ∷ at (framed (ping ++ (0x81 ∷ 0x50 ∷ deep (0x91 ∷ 0x90 ∷ [])))) 21
+    -- the header is no map, but whole: the place is the body's
+    ∷ at (framed (0x90 ∷ 0xc1 ∷ [])) 2
+    -- no other refusal has a place, and no frame that is read
+    ∷ nothing []
+    ∷ nothing (0xc1 ∷ [])
+    ∷ nothing (0x00 ∷ [])
+    ∷ nothing (0x02 ∷ 0xc1 ∷ [])
+    ∷ nothing (framed (0x90 ∷ 0x80 ∷ 0xc1 ∷ []))
+    ∷ nothing (framed (0x01 ∷ []))
+    ∷ nothing (framed (0x80 ∷ []))
+    ∷ nothing (framed ping ++ (0xc1 ∷ []))
+    ∷ []
+
+places : map (λ (c : Spoiled). frameRead (c .bytes) .place) spoiled ≡ map (λ (c : Spoiled). c .place) spoiled
+unfolding frameRead bySize sizeOf sizeBy inFrame broken spoiledAt bodyEntries bodyValue byEntries byPlaces suited accept refuse whole given check find distinct has keys entriesAt entriesBy entries entryAt keyed required isError among codes emptyFrame frameAt codeIn optional headerItems bodyItems numberHeld placeHeld heldAt valueHeld numberOrBytes suits isHeader numberIn asNumber view all value one container tooDeep byForm items sized payload sum formOf sameKind unsigned unsignedBy due dueIn naturalOf header counted
+places = refl
 
 -- ---- a record read, and written with its keys rising
 
@@ -175,7 +221,7 @@ abbrev shortSelected : Frame
 shortSelected = selectOf isNot isNot 5 (placed 16 2)
 
 select-read : (frameRead select ≡ accept 32 selected) × (frameRead short ≡ accept 18 shortSelected)
-unfolding frameRead bySize sizeOf sizeBy inFrame bodyEntries bodyValue byEntries byPlaces suited refuse whole given check find distinct has keys entriesAt entriesBy entries entryAt keyed required isError among codes emptyFrame frameAt codeIn optional headerItems bodyItems numberHeld placeHeld heldAt valueHeld numberOrBytes suits isHeader numberIn asNumber view all value one container tooDeep byForm items sized payload sum formOf sameKind unsigned unsignedBy due dueIn naturalOf header counted
+unfolding frameRead bySize sizeOf sizeBy inFrame broken bodyEntries bodyValue byEntries byPlaces suited refuse whole given check find distinct has keys entriesAt entriesBy entries entryAt keyed required isError among codes emptyFrame frameAt codeIn optional headerItems bodyItems numberHeld placeHeld heldAt valueHeld numberOrBytes suits isHeader numberIn asNumber view all value one container tooDeep byForm items sized payload sum formOf sameKind unsigned unsignedBy due dueIn naturalOf header counted
 select-read = (refl, refl)
 
 abbrev rising : Bytes

@@ -14,7 +14,7 @@ use Rattle.msgpack_scalars.specs.declared.Natural.the-variants.{Is, Cut, Other}
 use Rattle.msgpack_scalars.specs.declared.Header.{Header}
 use Rattle.msgpack_scalars.specs.declared.Header.the-variants.{Is as HeaderIs, Other as NoHeader}
 use Rattle.msgpack_writing.specs.Forms.{unsignedForm}
-use Rattle.frames.specs.declared.OptionalNumber.{OptionalNumber}
+use Rattle.msgpack_values.specs.declared.OptionalNumber.{OptionalNumber}
 use Rattle.frames.specs.declared.Place.{Place}
 use Rattle.frames.specs.declared.Rule.{Rule}
 use Rattle.frames.specs.declared.Rule.the-variants.{AtMost, Array, String, Anything}

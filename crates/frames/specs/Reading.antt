@@ -8,6 +8,8 @@ use lib.Dec.{leb, eqb}
 use lib.ListN.{length, take, drop}
 use Rattle.msgpack_first_bytes.specs.Bytes.{Bytes, pick}
 use Rattle.msgpack_values.specs.Value.{value}
+use Rattle.msgpack_values.specs.Spoiled.{noPlace, spoiledAt}
+use Rattle.msgpack_values.specs.declared.OptionalNumber.{OptionalNumber}
 use Rattle.msgpack_values.specs.declared.Read.{Read}
 use Rattle.msgpack_values.specs.declared.Read.the-variants.{Whole}
 use Rattle.msgpack_scalars.specs.Integer.{unsigned}
@@ -27,12 +29,16 @@ use Rattle.frames.specs.Maps.{Entry, entriesAt, keys, distinct, find}
 use Rattle.frames.specs.Cascade.{check, given, whole}
 
 -- "A refusal answers its number, with length 0 and an empty record"
+abbrev pub refuseAt : ℕ → OptionalNumber → FrameAnswer
+refuseAt n p = record { number = n; length = 0; frame = emptyFrame; place = p }
+
+-- .. without a place: every number but 4
 unfoldable pub refuse : ℕ → FrameAnswer
-refuse n = record { number = n; length = 0; frame = emptyFrame }
+refuse n = refuseAt n noPlace
 
 -- "An accepted call answers 0 with the length written or the record."
 unfoldable pub accept : ℕ → Frame → FrameAnswer
-accept n r = record { number = 0; length = n; frame = r }
+accept n r = record { number = 0; length = n; frame = r; place = noPlace }
 
 -- 9, over a table of known keys, each where f says that it stands
 unfoldable pub suited : List Line → Bytes → (ℕ → Place) → Bool
@@ -64,11 +70,15 @@ unfoldable pub bodyEntries : Bytes → ℕ → Bytes → Option (List Entry)
 bodyEntries s at [] = some []
 bodyEntries s at (b ∷ t) = entriesAt heldDepth s at
 
+-- 4, where the header or the body at `at` is broken. 02, 3/12: "A frame refused with 4 gives that place, counted from the frame's start."
+unfoldable pub broken : Bytes → ℕ → FrameAnswer
+broken s at = refuseAt 4 (spoiledAt maxDepth at s)
+
 -- 4 and 5: s is one frame and nothing more, its header from `at` on; then the rest
 unfoldable pub inFrame : Bytes → ℕ → FrameAnswer
 inFrame s at =
-    whole (refuse 4) (value maxDepth (drop at s)) (λ h.
-    whole (refuse 4) (bodyValue (drop (at + h) s)) (λ b.
+    whole (broken s at) (value maxDepth (drop at s)) (λ h.
+    whole (broken s (at + h)) (bodyValue (drop (at + h) s)) (λ b.
     check (refuse 5) (eqb (at + h + b) (length s))
     (byEntries s (entriesAt heldDepth s at) (bodyEntries s (at + h) (drop (at + h) s)))))
 

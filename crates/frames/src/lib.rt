@@ -1,5 +1,7 @@
 // The record of a frame and what the calls on frames answer, for Rust and C alike; their definitions stand in specs/.
 
+use msgpack_values::OptionalNumber;
+
 // Document 01's limits of frames; `specs/Limits.antt` has the same, each under its sentence.
 pub const MAX_SIZE: usize = 60_000;
 
@@ -19,13 +21,6 @@ pub const MAX_BASE: u64 = 1;
 pub const HEADER_KEYS: usize = 3;
 
 pub const KNOWN_KEYS: usize = 17;
-
-// A number that a frame may leave out.
-#[repr(C)]
-pub struct OptionalNumber {
-    pub present: bool,
-    pub value: u64,
-}
 
 // The place of a value that a frame may leave out: exactly its encoding, counted from the first lent byte.
 #[repr(C)]
@@ -57,12 +52,14 @@ pub struct Frame {
     pub error: Place,
 }
 
-// What reading a frame answers: 0 with its length and record, or a refusal's number with length 0 and an empty record.
+// What reading a frame answers: 0 with its length and record, or a refusal's number with length 0 and an empty record; with 4 also the
+// place of the first byte that spoils the frame, counted from its start.
 #[repr(C)]
 pub struct FrameAnswer {
     pub number: u32,
     pub length: usize,
     pub frame: Frame,
+    pub place: OptionalNumber,
 }
 
 // What writing a frame answers: 0 with the length written, or a refusal's number with length 0.

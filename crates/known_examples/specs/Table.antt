@@ -5,7 +5,7 @@ use mathlib.Core.List.{List, [], _∷_}
 use lib.ListN.{replicate}
 use Rattle.msgpack_first_bytes.specs.Bytes.{Bytes}
 use Rattle.frames.specs.Reading.{frameRead}
-use Rattle.frames.specs.declared.OptionalNumber.{OptionalNumber}
+use Rattle.msgpack_values.specs.declared.OptionalNumber.{OptionalNumber}
 use Rattle.frames.specs.declared.Place.{Place}
 use Rattle.frames.specs.declared.FrameAnswer.{FrameAnswer}
 use Rattle.tuples.specs.Call.{Result, updateCall, undoCall}
@@ -52,9 +52,10 @@ refusedFrame n =
         «data» = nowhere;
         error = nowhere;
       };
+      place = absent;
     }
 
--- inputs and answers; `accepted w` is 0, operation 0, the length of w, and the buffer with w at its front; `refused k i` has the buffer as lent
+-- inputs and answers; `accepted w` is 0, operation 0, the length of w, and the buffer with w at its front; `refused k i` has the buffer as lent; both are without a place
 abbrev pub table : List Case
 table =
     -- no bytes: 1. `00`: 3. `e0`: 2

@@ -49,6 +49,7 @@ pub extern "C" fn lak_frame_write(frame: Frame, bytes: &[u8], out: &mut [u8]) ->
         number: written.number,
         operation: 0,
         length: written.length,
+        place: msgpack_values::NO_PLACE,
     }
 }
 

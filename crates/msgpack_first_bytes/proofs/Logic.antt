@@ -24,6 +24,10 @@ module _ {A : Type 0} (P : A → Type 0) {x y : A} where
   pub by-ltb : (a b : ℕ) → (a < b → P x) → (b ≤ a → P y) → P (pick (ltb a b) x y)
   by-ltb a b f g = by (ltb a b) (λ e. f (ltb-true a b e)) (λ e. g (ltb-false a b e))
 
+-- in both cases
+pub past : {A : Type 0} (P : A → Type 0) (a b : ℕ) {x y : A} → P x → P y → P (pick (leb a b) x y)
+past P a b p q = by-leb P a b (λ _. p) (λ _. q)
+
 pub either : (a b : ℕ) → (a ≤ b) ⊎ (b < a)
 either a b = go (leb a b) refl
   where

@@ -9,6 +9,7 @@ use Rattle.msgpack_first_bytes.specs.Bytes.{Bytes}
 use Rattle.msgpack_first_bytes.specs.FirstByte.{formOf, sameKind}
 use Rattle.msgpack_numbers.specs.Number.{number}
 use Rattle.msgpack_values.specs.Value.{value, one, container, tooDeep, byForm, items, sized, payload}
+use Rattle.msgpack_values.specs.Spoiled.{noPlace, atPlace, spoiledAt}
 use Rattle.msgpack_scalars.specs.Integer.{dueIn, due, naturalOf, unsignedBy, unsigned, twosComplement, signedOf, signedBy, signed, adding, integer}
 use Rattle.msgpack_scalars.specs.declared.Int.the-variants.{FromZero, BelowZero}
 use Rattle.msgpack_meanings.specs.Meaning.{ofInteger, ofFloat32, ofFloat64, scalarMeaning, meaning, aloneBy, alone}
@@ -21,10 +22,11 @@ record Case : Type 0 where
   answer : Alone
 
 abbrev case : Bytes → ℕ → Meaning → Case
-case b n m = record { bytes = b; answer = record { number = 0; length = n; meaning = m } }
+case b n m = record { bytes = b; answer = record { number = 0; length = n; meaning = m; place = noPlace } }
 
-abbrev refused : Bytes → Case
-refused b = record { bytes = b; answer = record { number = 4; length = 0; meaning = Absent } }
+-- with the place of the byte that spoils it
+abbrev refused : Bytes → ℕ → Case
+refused b p = record { bytes = b; answer = record { number = 4; length = 0; meaning = Absent; place = atPlace p } }
 
 abbrev cases : List Case
 cases =
@@ -48,15 +50,17 @@ cases =
     ∷ case (0x81 ∷ 0x01 ∷ 0x90 ∷ []) 3 (Map 0 3)
     -- depth 16 and 17
     ∷ case (replicate 15 0x91 ++ (0x90 ∷ [])) 16 (Array 0 16)
-    ∷ refused (replicate 16 0x91 ++ (0x90 ∷ []))
+    ∷ refused (replicate 16 0x91 ++ (0x90 ∷ [])) 16
     -- broken, or past its bytes
-    ∷ refused []
-    ∷ refused (0xc1 ∷ [])
-    ∷ refused (0xc7 ∷ 0x00 ∷ [])
-    ∷ refused (0xcb ∷ 0x00 ∷ [])
-    ∷ refused (0xdd ∷ 0xff ∷ 0xff ∷ 0xff ∷ 0xff ∷ 0x00 ∷ [])
+    ∷ refused [] 0
+    ∷ refused (0xc1 ∷ []) 0
+    ∷ refused (0xc7 ∷ 0x00 ∷ []) 2
+    ∷ refused (0xcb ∷ 0x00 ∷ []) 2
+    ∷ refused (0xdd ∷ 0xff ∷ 0xff ∷ 0xff ∷ 0xff ∷ 0x00 ∷ []) 6
+    -- the leftmost of two
+    ∷ refused (0x93 ∷ 0x01 ∷ 0xc1 ∷ 0xa2 ∷ []) 2
     ∷ []
 
 examples : map (λ (c : Case). alone (c .bytes)) cases ≡ map (λ (c : Case). c .answer) cases
-unfolding value one container tooDeep byForm items sized payload number formOf sameKind dueIn due naturalOf unsignedBy unsigned twosComplement signedOf signedBy signed adding integer ofInteger ofFloat32 ofFloat64 scalarMeaning meaning aloneBy alone
+unfolding value one container tooDeep byForm items sized payload number formOf sameKind dueIn due naturalOf unsignedBy unsigned twosComplement signedOf signedBy signed adding integer ofInteger ofFloat32 ofFloat64 scalarMeaning meaning aloneBy alone spoiledAt
 examples = refl

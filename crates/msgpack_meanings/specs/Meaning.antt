@@ -11,6 +11,7 @@ use Rattle.msgpack_first_bytes.specs.declared.Form.{Form}
 use Rattle.msgpack_first_bytes.specs.declared.Form.the-variants.{Unused, Scalar, Array, Map}
 use Rattle.msgpack_numbers.specs.Number.{numberAt}
 use Rattle.msgpack_values.specs.Value.{value}
+use Rattle.msgpack_values.specs.Spoiled.{noPlace, spoiledAt}
 use Rattle.msgpack_numbers.specs.declared.Number.{Number}
 use Rattle.msgpack_numbers.specs.declared.Number.the-variants.{Is, Missing}
 use Rattle.msgpack_values.specs.declared.Read.{Read}
@@ -71,10 +72,14 @@ meaning (Scalar k w f) s n = scalarMeaning k w s n
 meaning (Array w f) s n = MeansArray 0 n
 meaning (Map w f) s n = MeansMap 0 n
 
--- "A value read alone is held to depth 16, and nothing past its end is judged." 4: broken, past its bytes, or too deep
+-- "A value read alone is held to depth 16"
+abbrev pub aloneDepth : ℕ
+aloneDepth = 16
+
+-- ".. and nothing past its end is judged." 4: broken, past its bytes, or too deep; then the place of "the first byte that spoils it"
 unfoldable pub aloneBy : Read → Bytes → Alone
-aloneBy (Whole n) s = record { number = 0; length = n; meaning = meaning (formOf (getD s 0 0)) s n }
-aloneBy (Broken p) s = record { number = 4; length = 0; meaning = Absent }
+aloneBy (Whole n) s = record { number = 0; length = n; meaning = meaning (formOf (getD s 0 0)) s n; place = noPlace }
+aloneBy (Broken p) s = record { number = 4; length = 0; meaning = Absent; place = spoiledAt aloneDepth 0 s }
 
 unfoldable pub alone : Bytes → Alone
-alone s = aloneBy (value 16 s) s
+alone s = aloneBy (value aloneDepth s) s

@@ -4,6 +4,7 @@ use msgpack_first_bytes::Kind;
 use msgpack_numbers::Number;
 use msgpack_scalars::Int;
 use msgpack_scalars::Integer;
+use msgpack_values::OptionalNumber;
 use msgpack_values::Read;
 ghost use mathlib.Core.Path.{_≡_};
 ghost use Prim.Native.Nat.{_+_, _≤_};
@@ -31,12 +32,16 @@ pub enum Meaning {
     Map(usize, usize),
 }
 
-// The answer for a value read alone: 0 with its length and meaning, or 4.
+// The answer for a value read alone: 0 with its length and meaning, or 4 with the place of the first byte that spoils it.
 pub struct Alone {
     pub number: u32,
     pub length: usize,
     pub meaning: Meaning,
+    pub place: OptionalNumber,
 }
+
+// How deep a value read alone may be.
+const ALONE_DEPTH: usize = 16;
 
 // A float 32 with its bits. The language makes a NaN, but not one with chosen bits.
 fn float32(bits: u32) -> Meaning
@@ -123,16 +128,19 @@ fn meaning_of(s: &[u8], end: usize) -> Meaning
 pub fn read_alone(s: &[u8]) -> Alone
     ensures { λ r. ⌜ r ≡ alone (now (s .entry)) ⌝ }
 {
-    match msgpack_values::read_value(s, 0, 16) {
+    let read = msgpack_values::read_value(s, 0, ALONE_DEPTH);
+    match read {
         Read::Whole(end) => Alone {
             number: 0,
             length: end,
             meaning: meaning_of(s, end),
+            place: msgpack_values::NO_PLACE,
         },
         Read::Broken(_) => Alone {
             number: 4,
             length: 0,
             meaning: Meaning::Absent,
+            place: msgpack_values::place_of(read),
         },
     }
 }

@@ -3,3 +3,4 @@ pub mod Laws
 pub mod Tokens
 pub mod Local
 pub mod Pieces
+pub mod Spoiled

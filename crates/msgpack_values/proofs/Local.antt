@@ -44,7 +44,7 @@ pick-whole a b p n x e = go (leb a b) refl e
     go false q e = impossible cc
 
 -- the bytes of one part, those of the next, and what follows
-parts : (k m : ℕ) (s t : Bytes) → take (k + m) s ++ t ≡ take k s ++ (take m (drop k s) ++ t)
+pub parts : (k m : ℕ) (s t : Bytes) → take (k + m) s ++ t ≡ take k s ++ (take m (drop k s) ++ t)
 parts k m s t = rw (take-add k m s, append-assoc)
 
 payload-kept : (n : ℕ) → Kept (payload n) (payload n)

@@ -2,4 +2,5 @@
 pub mod Value
 pub mod Tokens
 pub mod Pieces
+pub mod Spoiled
 pub mod Examples

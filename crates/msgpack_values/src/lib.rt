@@ -5,6 +5,7 @@ ghost use lib.ListN.{length, take, drop, getD};
 ghost use Rattle.msgpack_first_bytes.specs.FirstByte.{formOf};
 ghost use Rattle.msgpack_numbers.specs.Number.{number};
 ghost use Rattle.msgpack_values.specs.Value.{shift, payload, sized, items, inside, value};
+ghost use Rattle.msgpack_values.specs.Spoiled.{placeOf, spoiledAt};
 ghost use Rattle.msgpack_values.specs.Tokens.{scalarLength, shortCount, Width, Ends, Tells};
 
 // Whole, with the place of the first byte after it; or broken, with the place of the first
@@ -13,6 +14,18 @@ pub enum Read {
     Whole(usize),
     Broken(usize),
 }
+
+// A number that may be absent; then it is all 0.
+#[repr(C)]
+pub struct OptionalNumber {
+    pub present: bool,
+    pub value: u64,
+}
+
+pub const NO_PLACE: OptionalNumber = OptionalNumber {
+    present: false,
+    value: 0,
+};
 
 // What stands at a place, as far as its first bytes tell: a scalar, with the place after it; a
 // container, with the number of its values and the place of the first; or what is broken.
@@ -285,4 +298,24 @@ pub fn read_value(s: &[u8], at: usize, depth: usize) -> Read
         return Read::Whole(scalar);
     }
     read_values(s, at, 1, depth)
+}
+
+// The place of the byte that spoils a value; absent where it is whole.
+pub fn place_of(read: Read) -> OptionalNumber
+    ensures { λ r. ⌜ r ≡ placeOf read ⌝ }
+{
+    match read {
+        Read::Whole(_) => NO_PLACE,
+        Read::Broken(place) => OptionalNumber {
+            present: true,
+            value: place as u64,
+        },
+    }
+}
+
+// .. of the value at `at`, of depth at most `depth`.
+pub fn spoiled_at(s: &[u8], at: usize, depth: usize) -> OptionalNumber
+    ensures { λ r. ⌜ r ≡ spoiledAt depth at (now (s .entry)) ⌝ }
+{
+    place_of(read_value(s, at, depth))
 }

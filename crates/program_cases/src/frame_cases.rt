@@ -3,12 +3,12 @@ use crate::text::print;
 use crate::text::print_buffer;
 use crate::text::print_number;
 use frames::Frame;
-use frames::OptionalNumber;
 use frames::Place;
 use msgpack_numbers::Number;
+use msgpack_values::OptionalNumber;
 ghost use Prim.Native.Nat.{_≤_};
 
-fn print_optional(n: OptionalNumber) {
+pub(crate) fn print_optional(n: OptionalNumber) {
     if n.present {
         print_number(n.value as usize);
     } else {
@@ -73,10 +73,12 @@ pub(crate) fn print_record(frame: Frame) {
 pub(crate) fn print_read(bytes: &[u8]) {
     let answer = frame_reading::read_frame(bytes);
     let frame = answer.frame;
+    let place = answer.place;
     print(b"f");
     print_number(answer.number as usize);
     print_number(answer.length);
     print_record(frame);
+    print_optional(place);
     print(b"\n");
 }
 

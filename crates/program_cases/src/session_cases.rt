@@ -1,4 +1,5 @@
 // A session fed step by step.
+use crate::frame_cases::print_optional;
 use crate::frame_cases::print_record;
 use crate::text::decimal_at;
 use crate::text::find;
@@ -7,6 +8,7 @@ use crate::text::print;
 use crate::text::print_buffer;
 use crate::text::print_number;
 use crate::text::print_sum;
+use msgpack_values::OptionalNumber;
 use sessions::Session;
 use sessions::SessionAnswer;
 ghost use mathlib.Core.Path.{_≡_};
@@ -25,12 +27,21 @@ fn least(a: usize, b: usize) -> usize
     if a < b { a } else { b }
 }
 
-// Offset, held and refused.
+// A number, absent where there is no word for it.
+fn optional_in(word: &[u8]) -> OptionalNumber {
+    OptionalNumber {
+        present: 0 < word.len(),
+        value: decimal_at(word, 0) as u64,
+    }
+}
+
+// Offset, held and refused; and the place, where it has one.
 pub(crate) fn session_in(words: &[u8]) -> Session {
     Session {
         offset: decimal_at(part(words, b' ', 0), 0) as u64,
         held: decimal_at(part(words, b' ', 1), 0),
         refused: (decimal_at(part(words, b' ', 2), 0) % 4_294_967_296) as u32,
+        place: optional_in(part(words, b' ', 3)),
     }
 }
 
@@ -39,6 +50,8 @@ fn print_after(session: Session, carry: &[u8]) {
     print_number(session.offset as usize);
     print_number(session.held);
     print_number(session.refused as usize);
+    let place = session.place;
+    print_optional(place);
     print_sum(carry);
     print(b"\n");
 }
@@ -68,6 +81,8 @@ fn print_answer(answer: SessionAnswer) {
     print_number(answer.length);
     let frame = answer.frame;
     print_record(frame);
+    let place = answer.place;
+    print_optional(place);
 }
 
 // The next `n` bytes after those that were taken, or all that are left.

@@ -1,4 +1,5 @@
 // An update, and its undo list.
+use crate::frame_cases::print_optional;
 use crate::text::print;
 use crate::text::print_buffer;
 use crate::text::print_number;
@@ -8,6 +9,8 @@ fn print_answer(answer: Answer, out: &[u8]) {
     print_number(answer.number as usize);
     print_number(answer.operation as usize);
     print_number(answer.length);
+    let place = answer.place;
+    print_optional(place);
     print_buffer(out, answer.length);
 }
 

@@ -1,4 +1,5 @@
 // A value read alone, and the forms of first bytes.
+use crate::frame_cases::print_optional;
 use crate::text::print;
 use crate::text::print_number;
 use libc::STDOUT_FILENO;
@@ -6,7 +7,6 @@ use msgpack_first_bytes::Form;
 use msgpack_first_bytes::Kind;
 use msgpack_meanings::Meaning;
 use msgpack_scalars::Int;
-use msgpack_values::Read;
 
 fn kind_name(kind: Kind) {
     match kind {
@@ -107,21 +107,15 @@ fn print_meaning(meaning: Meaning) {
     }
 }
 
-// What the value at the front says: number, length, and its meaning or the place that spoils it.
+// What the value at the front says: number, length, meaning, and the place that spoils it.
 pub(crate) fn print_value(bytes: &[u8]) {
     let answer = msgpack_meanings::read_alone(bytes);
     print_number(answer.number as usize);
     print_number(answer.length);
     print(b"\t");
-    match msgpack_values::read_value(bytes, 0, 16) {
-        Read::Whole(_) => {
-            let meaning = answer.meaning;
-            print_meaning(meaning);
-        }
-        Read::Broken(place) => {
-            print(b"broken at");
-            print_number(place);
-        }
-    }
+    let meaning = answer.meaning;
+    print_meaning(meaning);
+    let place = answer.place;
+    print_optional(place);
     print(b"\n");
 }

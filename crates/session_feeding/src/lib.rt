@@ -1,6 +1,8 @@
 // A session opened, fed and reset; the frame that a feed shows.
 use frames::FrameAnswer;
 use frames::Size;
+use msgpack_values::NO_PLACE;
+use msgpack_values::OptionalNumber;
 use sessions::Session;
 use sessions::SessionAnswer;
 use sessions::SessionOpening;
@@ -25,6 +27,7 @@ pub fn reset() -> Session
         offset: 0,
         held: 0,
         refused: 0,
+        place: NO_PLACE,
     }
 }
 
@@ -118,9 +121,10 @@ fn session_after(
     stop: usize,
     number: u32,
     length: usize,
+    place: OptionalNumber,
 ) -> Session
     requires { ⌜ (number ≡ 1 → held + arrived ≤ carryRoom) ⌝ }
-    ensures { λ r. ⌜ r ≡ sessionAfter last held arrived stop number length ⌝ }
+    ensures { λ r. ⌜ r ≡ sessionAfter last held arrived stop number length place ⌝ }
 {
     if number == 0 {
         let offset = std::num::wrapping_add_u64(last.offset, length as u64);
@@ -128,6 +132,7 @@ fn session_after(
             offset,
             held: 0,
             refused: 0,
+            place: NO_PLACE,
         };
     }
     let offset = last.offset;
@@ -136,6 +141,7 @@ fn session_after(
             offset,
             held: held + arrived,
             refused: 0,
+            place: NO_PLACE,
         };
     }
     let held = if held == 0 { 0 } else { stop };
@@ -143,6 +149,7 @@ fn session_after(
         offset,
         held,
         refused: number,
+        place,
     }
 }
 
@@ -169,6 +176,7 @@ fn answered(
 {
     let number = answer.number;
     let frame = answer.frame;
+    let place = answer.place;
     SessionAnswer {
         number,
         in_carry: (number == 0) & (0 < held),
@@ -176,13 +184,14 @@ fn answered(
         offset: last.offset,
         length: answer.length,
         frame,
-        session: session_after(last, held, arrived, stop, number, answer.length),
+        session: session_after(last, held, arrived, stop, number, answer.length, place),
+        place,
     }
 }
 
 // A feed that shows nothing and takes nothing.
-fn idle(number: u32, session: Session) -> SessionAnswer
-    ensures { λ r. ⌜ r ≡ idle number session ⌝ }
+fn idle(number: u32, place: OptionalNumber, session: Session) -> SessionAnswer
+    ensures { λ r. ⌜ r ≡ idle number place session ⌝ }
 {
     SessionAnswer {
         number,
@@ -192,6 +201,7 @@ fn idle(number: u32, session: Session) -> SessionAnswer
         length: 0,
         frame: frame_reading::empty_frame(),
         session,
+        place,
     }
 }
 
@@ -235,10 +245,10 @@ pub fn feed(session: Session, piece: &[u8], carry: &mut [u8]) -> SessionAnswer
         × (now (carry .exit) ≡ carryOf session (now (piece .entry)) (now (carry .entry))) ⌝ }
 {
     if carry.len() < sessions::CARRY_ROOM {
-        return idle(19, session);
+        return idle(19, NO_PLACE, session);
     }
     if session.refused != 0 {
-        return idle(session.refused, session);
+        return idle(session.refused, session.place, session);
     }
     let held = least(session.held, carry.len());
     let frame = go_on(held, piece, carry);

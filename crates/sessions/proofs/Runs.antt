@@ -11,6 +11,7 @@ use lib.ListN.{length, take, drop, length-take, length-append, take-append-drop}
 use lib.Seq.{take-all, take-take, take-add, take-append-le, length-take-le}
 use Rattle.msgpack_first_bytes.specs.Bytes.{Bytes, pick}
 use Rattle.msgpack_first_bytes.proofs.Logic.{either}
+use Rattle.msgpack_values.specs.Spoiled.{noPlace}
 use Rattle.msgpack_writing.specs.Put.{next as after}
 use Rattle.msgpack_writing.proofs.Put.{wrote, through, length-put}
 use Rattle.msgpack_scalars.specs.Integer.{due, unsignedBy, unsigned}
@@ -42,7 +43,7 @@ pub record Between (s : Session) (c : Bytes) : Type 0 where
   pub waits : frameRead (begun s c) .number ≡ 1
 
 -- nothing is held
-pub start : (o : ℕ) (c : Bytes) → carryRoom ≤ length c → Between (record { offset = o; held = 0; refused = 0 }) c
+pub start : (o : ℕ) (c : Bytes) → carryRoom ≤ length c → Between (record { offset = o; held = 0; refused = 0; place = noPlace }) c
 unfolding begun frameRead bySize sizeOf sizeBy unsigned unsignedBy due refuse
 start o c h = record { clean = refl; room = h; inside = omega arith; waits = refl }
 
@@ -51,7 +52,7 @@ module _ (s : Session) (p c : Bytes) (r : carryRoom ≤ length c) where
   unfolding feedOf carryOf
   feed-clean e = rw (le-ltb (length c) carryRoom r, eq-eqb (s .refused) 0 e) (refl, refl)
 
-  feed-refused : (s .refused ≡ 0 → ⊥) → (feedOf s p c ≡ idle (s .refused) s) × (carryOf s p c ≡ c)
+  feed-refused : (s .refused ≡ 0 → ⊥) → (feedOf s p c ≡ idle (s .refused) (s .place) s) × (carryOf s p c ≡ c)
   unfolding feedOf carryOf
   feed-refused e = rw (le-ltb (length c) carryRoom r, ne-eqb (s .refused) 0 e) (refl, refl)
 
@@ -100,7 +101,7 @@ module _ (s : Session) (p c : Bytes) (g : Between s c) where
 
   -- what waits
   abbrev waited : Session
-  waited = record { offset = s .offset; held = length x + length p; refused = 0 }
+  waited = record { offset = s .offset; held = length x + length p; refused = 0; place = noPlace }
 
   wait-begun : frameRead y .number ≡ 1 → begun waited (kept (s .held) p (stop y) false c) ≡ y
   unfolding begun kept
@@ -184,11 +185,11 @@ module _ (n : ℕ) (ns : List ℕ) (ih : Shows ns) (b : Bytes) (s : Session) (c 
         let d = kept (s .held) p (stop v) true c in
         let k = kept-long s p c g true in
         let m = g .room in
-        let t : Session = record { offset = s .offset; held = pick (eqb (length u) 0) 0 (stop v); refused = frameRead v .number } in
+        let t : Session = record { offset = s .offset; held = pick (eqb (length u) 0) 0 (stop v); refused = frameRead v .number; place = frameRead v .place } in
         let q = refused-run ns (drop (stop v - length u) b) t d (omega arith) z in
-        let f : run (n ∷ ns) b s c ≡ record { seen = none (frameRead v .number) (s .offset); taken = stop v - length u + 0 } =
+        let f : run (n ∷ ns) b s c ≡ record { seen = none (frameRead v .number) (frameRead v .place) (s .offset); taken = stop v - length u + 0 } =
         feeds true told ∙ rw (ne-eqb (frameRead v .number) 0 z, ne-eqb (frameRead v .number) 1 h, q) in
-        by-run _ _ f (join 0) (ap (none (frameRead v .number)) at ∙ sym (own-refused v [] h o z))
+        by-run _ _ f (join 0) (ap (none (frameRead v .number) (frameRead v .place)) at ∙ sym (own-refused v [] h o z))
 
     answers : frameRead v .number ≡ 0 → Claim
     unfolding adding fed sessionAfter begun
@@ -197,7 +198,7 @@ module _ (n : ℕ) (ns : List ℕ) (ih : Shows ns) (b : Bytes) (s : Session) (c 
         let k = kept-long s p c g true in
         let m = g .room in
         let a = frameRead v in
-        let t : Session = record { offset = round (s .offset + a .length); held = 0; refused = 0 } in
+        let t : Session = record { offset = round (s .offset + a .length); held = 0; refused = 0; place = noPlace } in
         let rest = drop (stop v - length u) b in
         let r = run ns rest t d in
         let sh : ℕ → Shown = λ l. record { bytes = take (stop v) v; frame = a .frame; offset = l } in
@@ -219,7 +220,7 @@ module _ (n : ℕ) (ns : List ℕ) (ih : Shows ns) (b : Bytes) (s : Session) (c 
 shows : (ns : List ℕ) → Shows ns
 unfolding run
 shows [] b s c g o at =
-    ap (none 0) at ∙ sym (ap (framesFrom 0 o) (append-nil (begun s c)) ∙ uncut-open o (begun s c) (g .waits))
+    ap (none 0 noPlace) at ∙ sym (ap (framesFrom 0 o) (append-nil (begun s c)) ∙ uncut-open o (begun s c) (g .waits))
 shows (n ∷ ns) b s c g o at = claim n ns (shows ns) b s c g o at
 
 pub every : EveryCutting

@@ -9,6 +9,7 @@ use lib.Dec.{eqb}
 use lib.ListN.{length, take, drop, take-append-drop}
 use lib.Seq.{take-at, drop-at, length-take-le, take-append-le}
 use Rattle.msgpack_first_bytes.specs.Bytes.{Bytes}
+use Rattle.msgpack_values.specs.Spoiled.{noPlace}
 use Rattle.frames.specs.Reading.{sizeOf, frameRead}
 use Rattle.frames.specs.declared.FrameAnswer.{FrameAnswer}
 use Rattle.sessions.specs.Session.{round, settledBy}
@@ -34,13 +35,13 @@ passed (suc k) o [] = refl
 passed (suc k) o (b ∷ s) = passed k o s
 
 -- nothing is settled yet
-pub uncut-open : (o : ℕ) (s : Bytes) → frameRead s .number ≡ 1 → framesFrom 0 o s ≡ none 0 (round o)
+pub uncut-open : (o : ℕ) (s : Bytes) → frameRead s .number ≡ 1 → framesFrom 0 o s ≡ none 0 noPlace (round o)
 unfolding framesFrom
 uncut-open o [] e = refl
 uncut-open o (b ∷ s) e = rw e
 
 -- a refused frame
-pub uncut-refused : (o : ℕ) (s : Bytes) → (frameRead s .number ≡ 0 → ⊥) → (frameRead s .number ≡ 1 → ⊥) → framesFrom 0 o s ≡ none (frameRead s .number) (round o)
+pub uncut-refused : (o : ℕ) (s : Bytes) → (frameRead s .number ≡ 0 → ⊥) → (frameRead s .number ≡ 1 → ⊥) → framesFrom 0 o s ≡ none (frameRead s .number) (frameRead s .place) (round o)
 unfolding framesFrom
 uncut-refused o [] y z = let w = settled [] z .known in absurd (let i = w .some in let j = w .inside in omega arith)
 uncut-refused o (b ∷ s) y z = rw (ne-eqb (frameRead (b ∷ s) .number) 0 y, ne-eqb (frameRead (b ∷ s) .number) 1 z)
@@ -75,9 +76,9 @@ module _ (s t : Bytes) (h : frameRead s .number ≡ 1 → ⊥) where
   long : length (take (stop s) s) ≡ stop s
   long = length-take-le (stop s) s (settled s h .known .inside)
 
-  pub own-refused : (o : ℕ) → (frameRead s .number ≡ 0 → ⊥) → framesFrom 0 o (take (stop s) s ++ t) ≡ none (frameRead s .number) (round o)
+  pub own-refused : (o : ℕ) → (frameRead s .number ≡ 0 → ⊥) → framesFrom 0 o (take (stop s) s ++ t) ≡ none (frameRead s .number) (frameRead s .place) (round o)
   own-refused o z =
-      uncut-refused o (take (stop s) s ++ t) (λ e. z (sym own-number ∙ e)) (λ e. h (sym own-number ∙ e)) ∙ ap (λ (n : ℕ). none n (round o)) own-number
+      uncut-refused o (take (stop s) s ++ t) (λ e. z (sym own-number ∙ e)) (λ e. h (sym own-number ∙ e)) ∙ ap (λ (a : FrameAnswer). none (a .number) (a .place) (round o)) own-read
 
   pub own-next : (o : ℕ) → frameRead s .number ≡ 0
       → framesFrom 0 o (take (stop s) s ++ t) ≡ before (record { bytes = take (stop s) s; frame = frameRead s .frame; offset = round o }) (framesFrom 0 (o + stop s) t)

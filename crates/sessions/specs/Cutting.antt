@@ -8,6 +8,8 @@ use mathlib.Core.List.{List, [], _∷_}
 use lib.Dec.{eqb}
 use lib.ListN.{length, take, drop}
 use Rattle.msgpack_first_bytes.specs.Bytes.{Bytes, pick}
+use Rattle.msgpack_values.specs.Spoiled.{noPlace}
+use Rattle.msgpack_values.specs.declared.OptionalNumber.{OptionalNumber}
 use Rattle.frames.specs.Reading.{frameRead}
 use Rattle.frames.specs.declared.Frame.{Frame}
 use Rattle.frames.specs.declared.FrameAnswer.{FrameAnswer}
@@ -21,30 +23,32 @@ pub record Shown : Type 0 where
   pub frame : Frame
   pub offset : ℕ
 
--- the frames in their order; then the number of a refused one, or 0; and the offset then, the length of all these frames, going round
+-- the frames in their order; then the number of a refused one, or 0, and its place; and the offset then, the length of all these frames,
+-- going round
 pub record Seen : Type 0 where
   pub frames : List Shown
   pub refused : ℕ
+  pub place : OptionalNumber
   pub offset : ℕ
 
-abbrev pub none : ℕ → ℕ → Seen
-none n o = record { frames = []; refused = n; offset = o }
+abbrev pub none : ℕ → OptionalNumber → ℕ → Seen
+none n p o = record { frames = []; refused = n; place = p; offset = o }
 
 abbrev pub before : Shown → Seen → Seen
-before f r = record { frames = f ∷ r .frames; refused = r .refused; offset = r .offset }
+before f r = record { frames = f ∷ r .frames; refused = r .refused; place = r .place; offset = r .offset }
 
 -- ---- the uncut bytes, one frame after the other as `frameRead` reads it
 
 -- what is shown after frames of o bytes in all; of the bytes here, the first k belong to the last of them and are passed over
 -- "offset, which is the length of all frames answered since then, going round from 2^64-1 to 0"
 unfoldable pub framesFrom : ℕ → ℕ → Bytes → Seen
-framesFrom k o [] = none 0 (round o)
+framesFrom k o [] = none 0 noPlace (round o)
 framesFrom (suc k) o (b ∷ s) = framesFrom k o s
 framesFrom zero o (b ∷ s) =
     let a : FrameAnswer = frameRead (b ∷ s) in
     pick (eqb (a .number) 0)
     (before (record { bytes = take (a .length) (b ∷ s); frame = a .frame; offset = round o }) (framesFrom (a .length - 1) (o + a .length) s))
-    (none (pick (eqb (a .number) 1) 0 (a .number)) (round o))
+    (pick (eqb (a .number) 1) (none 0 noPlace (round o)) (none (a .number) (a .place) (round o)))
 
 unfoldable pub framesOf : Bytes → Seen
 framesOf s = framesFrom 0 0 s
@@ -62,13 +66,13 @@ adding a p c r =
     record {
       seen = pick (eqb (a .number) 0)
           (before (record { bytes = viewOf (a .«in_carry») (a .length) p c; frame = a .frame; offset = a .offset }) (r .seen))
-          (pick (eqb (a .number) 1) (r .seen) (none (a .number) (a .offset)));
+          (pick (eqb (a .number) 1) (r .seen) (none (a .number) (a .place) (a .offset)));
       taken = a .taken + r .taken;
     }
 
 -- the bytes b by pieces, one number for each feed: how many bytes its piece has, of those not yet taken; none, and more than there are, are allowed
 unfoldable pub run : List ℕ → Bytes → Session → Bytes → Run
-run [] b s c = record { seen = none 0 (s .offset); taken = 0 }
+run [] b s c = record { seen = none 0 noPlace (s .offset); taken = 0 }
 run (n ∷ ns) b s c =
     let p : Bytes = take n b in
     let a : SessionAnswer = feedOf s p c in

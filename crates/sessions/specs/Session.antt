@@ -5,6 +5,8 @@ use mathlib.Core.List.{[], _++_}
 use lib.Dec.{ltb, eqb}
 use lib.ListN.{length, take}
 use Rattle.msgpack_first_bytes.specs.Bytes.{Bytes, pick}
+use Rattle.msgpack_values.specs.Spoiled.{noPlace}
+use Rattle.msgpack_values.specs.declared.OptionalNumber.{OptionalNumber}
 use Rattle.msgpack_writing.specs.Put.{put}
 use Rattle.frames.specs.Keys.{emptyFrame}
 use Rattle.frames.specs.Reading.{sizeOf, frameRead}
@@ -25,7 +27,7 @@ round n = n % 2 ^ 64
 
 -- "an opening or reset"; "a reset, which drops the begun frame"
 unfoldable pub fresh : Session
-fresh = record { offset = 0; held = 0; refused = 0 }
+fresh = record { offset = 0; held = 0; refused = 0; place = noPlace }
 
 unfoldable pub opening : Bytes → SessionOpening
 opening c = record { number = pick (ltb (length c) carryRoom) 19 0; session = fresh }
@@ -35,21 +37,22 @@ unfoldable pub settledBy : Size → ℕ
 settledBy (Promises n k) = k + n
 settledBy (Refused n k) = k
 
--- "repeats that answer, takes 0 bytes and changes nothing"; 19 too takes and changes nothing
-unfoldable pub idle : ℕ → Session → SessionAnswer
-idle n s = record { number = n; «in_carry» = false; taken = 0; offset = s .offset; length = 0; frame = emptyFrame; session = s }
+-- "repeats that answer, takes 0 bytes and changes nothing", its place too; 19 too takes and changes nothing
+unfoldable pub idle : ℕ → OptionalNumber → Session → SessionAnswer
+idle n p s = record { number = n; «in_carry» = false; taken = 0; offset = s .offset; length = 0; frame = emptyFrame; session = s; place = p }
 
 -- ---- the frame at hand: so many bytes of it were held and so many arrived, the first `stop` of all these settle it, and reading them answers a
 
 -- "offset, which is the length of all frames answered since then": a frame that is answered is counted, and held no more
--- one not settled yet "goes on"; of a refused one the number is kept, and its bytes where they are in the carry buffer
-unfoldable pub sessionAfter : Session → ℕ → ℕ → ℕ → ℕ → ℕ → Session
-sessionAfter s held arrived stop number size =
-    pick (eqb number 0) (record { offset = round (s .offset + size); held = 0; refused = 0 })
-    (pick (eqb number 1) (record { offset = s .offset; held = held + arrived; refused = 0 })
-    (record { offset = s .offset; held = pick (eqb held 0) 0 stop; refused = number }))
+-- one not settled yet "goes on"; of a refused one number and place are kept, and its bytes where they are in the carry buffer
+unfoldable pub sessionAfter : Session → ℕ → ℕ → ℕ → ℕ → ℕ → OptionalNumber → Session
+sessionAfter s held arrived stop number size place =
+    pick (eqb number 0) (record { offset = round (s .offset + size); held = 0; refused = 0; place = noPlace })
+    (pick (eqb number 1) (record { offset = s .offset; held = held + arrived; refused = 0; place = noPlace })
+    (record { offset = s .offset; held = pick (eqb held 0) 0 stop; refused = number; place = place }))
 
 -- "a feed that can't settle its frame yet answers 1, takes all": reading its bytes answers 1
+-- 02, 3/12: "A frame refused with 4 gives that place": as reading it gives it
 unfoldable pub fed : Session → ℕ → ℕ → ℕ → FrameAnswer → SessionAnswer
 fed s held arrived stop a =
     record {
@@ -59,7 +62,8 @@ fed s held arrived stop a =
       offset = s .offset;
       length = a .length;
       frame = a .frame;
-      session = sessionAfter s held arrived stop (a .number) (a .length);
+      session = sessionAfter s held arrived stop (a .number) (a .length) (a .place);
+      place = a .place;
     }
 
 -- "The taken bytes of a frame not settled in its first piece stand at the carry buffer's start, refused or not;
@@ -84,8 +88,8 @@ begun s c = take (s .held) c
 -- "19, ... at opening or feed, before all others, changing nothing"; "After a refused frame each feed repeats that answer"
 unfoldable pub feedOf : Session → Bytes → Bytes → SessionAnswer
 feedOf s p c =
-    pick (ltb (length c) carryRoom) (idle 19 s)
-    (pick (eqb (s .refused) 0) (goOn s (begun s c) p) (idle (s .refused) s))
+    pick (ltb (length c) carryRoom) (idle 19 noPlace s)
+    (pick (eqb (s .refused) 0) (goOn s (begun s c) p) (idle (s .refused) (s .place) s))
 
 -- ".. takes 0 bytes and changes nothing": the carry buffer after the feed, in the same three cases
 unfoldable pub carryOf : Session → Bytes → Bytes → Bytes

@@ -1,6 +1,7 @@
 // Frames taken as the line delivers them: what a session is and what a feed answers; their definitions stand in specs/.
 // The claim about cutting speaks of `feedOf` and `carryOf`, which `session_feeding::feed` is proved to answer and to leave.
 use frames::Frame;
+use msgpack_values::OptionalNumber;
 ghost use Rattle.sessions.specs.Cutting.{EveryCutting, AnyTwo};
 
 // The longest frame: a size number of nine bytes and the 60,000 that it promises. A carry buffer has room for it.
@@ -15,6 +16,8 @@ pub struct Session {
     pub held: usize,
     // the number of a refused frame, or 0
     pub refused: u32,
+    // and its place, where it has one
+    pub place: OptionalNumber,
 }
 
 #[repr(C)]
@@ -37,6 +40,8 @@ pub struct SessionAnswer {
     // its places count from the shown frame's first byte
     pub frame: Frame,
     pub session: Session,
+    // with 4, the first byte that spoils the frame, counted from the frame's start
+    pub place: OptionalNumber,
 }
 
 // For all bytes, all ways of cutting them and every carry buffer that is long enough: what a run of feeds from an
@@ -45,7 +50,7 @@ pub fn every_cutting_shows_the_same()
     ensures { λ _. ⌜ EveryCutting ⌝ }
 {}
 
-// Two runs to the end over the same bytes show the same frames, and the same refusal at the same offset.
+// Two runs to the end over the same bytes show the same frames, and the same refusal at the same offset and place.
 pub fn any_two_cuttings_agree()
     ensures { λ _. ⌜ AnyTwo ⌝ }
 {}

@@ -1,5 +1,5 @@
 -- An update that goes in, and the update by its undo list. Assumes nothing.
-use mathlib.Core.Path.{_≡_, refl, sym, ap, subst}
+use mathlib.Core.Path.{_≡_, refl, sym, subst}
 use mathlib.Core.Bool.{Bool, true, false, _&&_}
 use mathlib.Core.List.{List}
 use mathlib.Core.Option.{Option, none, some}
@@ -13,7 +13,7 @@ use Rattle.tuples.specs.Limits.{maxOperations, maxList}
 use Rattle.tuples.specs.Tuple.{Fields, plain, fieldsOf}
 use Rattle.tuples.specs.Operation.{Operation, operationsOf}
 use Rattle.tuples.specs.Edit.{plans, Run, refused, done, run, undoOf}
-use Rattle.tuples.specs.Call.{numberOf, Outcome, refusal, bytes, judged, onRun, updateOf, limitedList, undoListOf, update, undo, refusing, writing, delivered}
+use Rattle.tuples.specs.Call.{numberOf, Outcome, refusal, bytes, judged, onRun, updateOf, limitedList, undoListOf, update, undo, refusing, writing, delivered, spoiledIn, withPlace}
 use Rattle.tuples.specs.Sequence.{State, onAnswer}
 use Rattle.tuples.specs.declared.Refusal.{Refusal}
 use Rattle.tuples.specs.declared.Refusal.the-variants.{BadTuple, BadList, NoField, Unsuited, OutOfRange, TooLarge, LongUndo, ShortBuffer}
@@ -68,6 +68,16 @@ went-in t l b w u h k = from-tuple (fieldsOf t) refl (operationsOf b l) refl h k
     from-tuple none e p q h k = impossible (cc)
     from-tuple (some fs) e none q h k = impossible (cc)
     from-tuple (some fs) e (some os) q h k = from-run fs os e q (run 0 (plans os) fs) refl h k
+
+-- ---- what is written, and 18, have no place
+
+pub no-place : (t l w out : Bytes) → withPlace t l (delivered (bytes w) out) ≡ delivered (bytes w) out
+unfolding withPlace spoiledIn delivered refusing writing
+no-place t l w out = go (leb (length w) (length out))
+  where
+    go : (b : Bool) → withPlace t l (pick b (writing w out) (refusing ShortBuffer 0 out)) ≡ pick b (writing w out) (refusing ShortBuffer 0 out)
+    go true = refl
+    go false = refl
 
 -- ---- the state after a call
 

@@ -118,7 +118,7 @@ pub data AllFine : List Operation → Type 0 where
   end : AllFine []
   fine : {o : Operation} {os : List Operation} → FineOperation o → AllFine os → AllFine (o ∷ os)
 
-before-some : (o : Operation) (r : Option (List Operation)) (os : List Operation) → before o r ≡ some os → (ps : List Operation) × (r ≡ some ps) × (os ≡ o ∷ ps)
+pub before-some : (o : Operation) (r : Option (List Operation)) (os : List Operation) → before o r ≡ some os → (ps : List Operation) × (r ≡ some ps) × (os ≡ o ∷ ps)
 unfolding before
 before-some o none os h = impossible (cc)
 before-some o (some ps) os h = (ps, refl, cc)

@@ -7,11 +7,11 @@ use native.Mathlib.Omega.{arith}
 use lib.ListN.{length}
 use Rattle.msgpack_first_bytes.specs.Bytes.{Bytes}
 use Rattle.tuples.specs.Tuple.{Fields, plain, fieldsOf}
-use Rattle.tuples.specs.Call.{Outcome, refusal, bytes, update, undo, delivered, updateCall, undoCall}
-use Rattle.tuples.specs.Sequence.{Event, updating, takingBack, OnPile, State, start, goesIn, takeBackCall, afterTakingBack, stateAfter, stateAfterAll, Holds, EachHolds, Demand3}
+use Rattle.tuples.specs.Call.{Outcome, refusal, bytes, update, undo, delivered, withPlace, updateCall, undoCall}
+use Rattle.tuples.specs.Sequence.{Event, updating, takingBack, OnPile, State, start, onAnswer, goesIn, takeBackCall, afterTakingBack, stateAfter, stateAfterAll, Holds, EachHolds, Demand3}
 use Rattle.msgpack_first_bytes.proofs.Logic.{impossible}
 use Rattle.tuples.proofs.Tuple.{fields-legal, read-plain}
-use Rattle.tuples.proofs.Calls.{TakesBack, went-in, by-answer}
+use Rattle.tuples.proofs.Calls.{TakesBack, went-in, no-place, by-answer}
 
 -- ---- an update that went in
 
@@ -50,7 +50,8 @@ module _ (first : Fields) where
 
     top-plain : (x : OnPile) (below : List OnPile) (out : Bytes) (c : Chain (k .cur) (x ∷ below)) → takeBackCall s x out ≡ delivered (bytes (plain (c .0))) out
     unfolding updateCall
-    top-plain x below out c = ap (λ (o : Outcome). delivered o out) (c .2 (s .tuple) (k .reads))
+    top-plain x below out c =
+        ap (λ (o : Outcome). withPlace (s .tuple) (x .list) (delivered o out)) (c .2 (s .tuple) (k .reads)) ∙ no-place (s .tuple) (x .list) (plain (c .0)) out
 
     takes-back-sure : (pile : List OnPile) (out : Bytes) → Chain (k .cur) pile → Sure (afterTakingBack s pile out)
     unfolding afterTakingBack
@@ -61,17 +62,17 @@ module _ (first : Fields) where
         record { cur = c .0; reads = ap fieldsOf o ∙ read-plain (c .0) (fields-legal (x .given) (c .0) (c .1)); chain = c .3 }))
 
   after-sure : (s : State) (e : Event) → Sure s → Sure (stateAfter s e)
-  unfolding stateAfter updateCall
+  unfolding stateAfter updateCall withPlace onAnswer
   after-sure s (updating l b out) k =
       by-answer Sure (update (s .tuple) l b) out s (goesIn s (undo (s .tuple) l b)) k (goes-in-sure s k l b (undo (s .tuple) l b) refl)
   after-sure s (takingBack out) k = takes-back-sure s k (s .pile) out (k .chain)
 
   holds : (s : State) (e : Event) → Sure s → Holds s e
-  unfolding stateAfter updateCall undoCall
+  unfolding stateAfter updateCall undoCall withPlace onAnswer
   holds s (updating l b out) k = λ top h room.
       let q = by-answer (λ (x : State). x .pile ≡ top ∷ s .pile → undo (s .tuple) l b ≡ bytes (top .list)) (update (s .tuple) l b) out s
       (goesIn s (undo (s .tuple) l b)) (λ e. unchanged top (s .pile) e) (λ w _. laid-on s top (undo (s .tuple) l b) w) in
-      ap (λ (o : Outcome). delivered o room) (q h)
+      ap (λ (o : Outcome). withPlace (s .tuple) l (delivered o room)) (q h) ∙ no-place (s .tuple) l (top .list) room
   holds s (takingBack out) k = λ top below h.
       let c : Chain (k .cur) (top ∷ below) = subst (Chain (k .cur)) h (k .chain) in
       (c .0, c .1, top-plain s k top below out c)

@@ -29,7 +29,7 @@ use Rattle.msgpack_scalars.specs.declared.Header.{Header}
 use Rattle.msgpack_scalars.specs.declared.Header.the-variants.{Is, Other}
 use Rattle.msgpack_writing.specs.Forms.{bigEndian, arrayHeader}
 use Rattle.msgpack_read_back.proofs.Back.{array-header-back}
-use Rattle.msgpack_first_bytes.proofs.Logic.{impossible, by-leb}
+use Rattle.msgpack_first_bytes.proofs.Logic.{impossible, by-leb, past}
 use Rattle.msgpack_writing.proofs.Lengths.{array-mono}
 use Rattle.tuples.specs.Limits.{maxFields, maxTuple, fieldDepth}
 use Rattle.tuples.specs.Tuple.{Fields, plain, filling, fieldsFilling, fieldsBy, fieldsOf}
@@ -46,9 +46,6 @@ Enough Elsewhere = Unit {0}
 
 abbrev Wide : Form → Type 0
 Wide F = Enough (arrayBy F)
-
-past : (P : Form → Type 0) (b k : ℕ) {x y : Form} → P x → P y → P (pick (leb b k) x y)
-past P b k p q = by-leb P b k (λ _. p) (λ _. q)
 
 array-wide : (b : ℕ) → Wide (formOf b)
 unfolding formOf

@@ -3,10 +3,12 @@ use Prim.Native.Nat.{ℕ}
 use mathlib.Core.Bool.{_&&_}
 use mathlib.Core.List.{List, _++_}
 use mathlib.Core.Option.{Option, none, some}
-use lib.Dec.{leb}
+use lib.Dec.{leb, eqb}
 use lib.ListN.{length, drop}
 use Rattle.msgpack_first_bytes.specs.Bytes.{Bytes, pick}
-use Rattle.tuples.specs.Limits.{maxOperations, maxList}
+use Rattle.msgpack_values.specs.Spoiled.{noPlace, spoiledAt}
+use Rattle.msgpack_values.specs.declared.OptionalNumber.{OptionalNumber}
+use Rattle.tuples.specs.Limits.{tupleDepth, listDepth, maxOperations, maxList}
 use Rattle.tuples.specs.Tuple.{Fields, plain, fieldsOf}
 use Rattle.tuples.specs.Operation.{Operation, operationsOf}
 use Rattle.tuples.specs.Edit.{Plan, plans, Run, refused, done, run, undoOf}
@@ -62,24 +64,34 @@ pub record Result : Type 0 where
   pub number : ℕ
   pub operation : ℕ
   pub length : ℕ
+  pub place : OptionalNumber
   pub buffer : Bytes
 
 -- "A refusal answers its number, with length 0 ...; buffers keep their bytes. 13 to 16 also give the operation's index from 0; all others give 0 there."
 unfoldable pub refusing : Refusal → ℕ → Bytes → Result
-refusing k i out = record { number = numberOf k; operation = i; length = 0; buffer = out }
+refusing k i out = record { number = numberOf k; operation = i; length = 0; place = noPlace; buffer = out }
 
 -- "An accepted call answers 0 with the length written"; "bytes past the written length are unchanged"
 unfoldable pub writing : Bytes → Bytes → Result
-writing w out = record { number = 0; operation = 0; length = length w; buffer = w ++ drop (length w) out }
+writing w out = record { number = 0; operation = 0; length = length w; place = noPlace; buffer = w ++ drop (length w) out }
 
 -- "18: the lent buffer is too short"
 unfoldable pub delivered : Outcome → Bytes → Result
 delivered (refusal k i) out = refusing k i out
 delivered (bytes w) out = pick (leb (length w) (length out)) (writing w out) (refusing ShortBuffer 0 out)
 
+-- 02, 3/12: "also inside tuples and lists for 11 and 12 where a broken value is the cause; a place is given exactly then, too deep included,
+-- whichever other cause stands beside it": by the number that a call answers on the tuple t and the list l
+unfoldable pub spoiledIn : ℕ → Bytes → Bytes → OptionalNumber
+spoiledIn n t l = pick (eqb n 11) (spoiledAt tupleDepth 0 t) (pick (eqb n 12) (spoiledAt listDepth 0 l) noPlace)
+
+unfoldable pub withPlace : Bytes → Bytes → Result → Result
+withPlace t l r =
+    record { number = r .number; operation = r .operation; length = r .length; place = spoiledIn (r .number) t l; buffer = r .buffer }
+
 -- THE TWO CALLS: tuple, list, index base, output buffer
 unfoldable pub updateCall : Bytes → Bytes → ℕ → Bytes → Result
-updateCall t l b out = delivered (update t l b) out
+updateCall t l b out = withPlace t l (delivered (update t l b) out)
 
 unfoldable pub undoCall : Bytes → Bytes → ℕ → Bytes → Result
-undoCall t l b out = delivered (undo t l b) out
+undoCall t l b out = withPlace t l (delivered (undo t l b) out)

@@ -9,6 +9,7 @@ use Rattle.msgpack_first_bytes.specs.FirstByte.{formOf, sameKind}
 use Rattle.msgpack_numbers.specs.Number.{number}
 use Rattle.msgpack_values.specs.Value.{payload, sized, items, byForm, one, tooDeep, container, value}
 use Rattle.msgpack_values.specs.Pieces.{pieces, joined}
+use Rattle.msgpack_values.specs.Spoiled.{noPlace, atPlace, spoiledAt}
 use Rattle.msgpack_scalars.specs.Integer.{dueIn, due, naturalOf, unsignedBy, unsigned, twosComplement, signedOf, signedBy, signed, adding, integer}
 use Rattle.msgpack_scalars.specs.Header.{counted, header}
 use Rattle.msgpack_writing.specs.Forms.{bigEndian, unsignedForm, negativeForm, stringHeader, arrayHeader}
@@ -16,7 +17,7 @@ use Rattle.tuples.specs.Tuple.{plain, filling, fieldsFilling, fieldsBy, 
 use Rattle.tuples.specs.Decoding.{onGot, then, made, nothing, valueFrom, anyValue, integerFrom, anyInteger, less, floor, atLeast, position, stringFrom, string, countFrom, count, mark}
 use Rattle.tuples.specs.Operation.{three, five, actionOf, operation, before, andMore, operations, listBy, operationsOf}
 use Rattle.tuples.specs.Edit.{asℤ, ranged, spliced, became, suited, altered, editAt, fieldAt, planOf, plans, fits, limited, perform, step, run, operationBytes, restored, inverse, undoOf}
-use Rattle.tuples.specs.Call.{judged, onRun, updateOf, limitedList, undoListOf, update, undo, Result, refusing, writing, delivered, updateCall, undoCall}
+use Rattle.tuples.specs.Call.{judged, onRun, updateOf, limitedList, undoListOf, update, undo, Result, refusing, writing, delivered, spoiledIn, withPlace, updateCall, undoCall}
 use Rattle.tuples.specs.Sequence.{Event, updating, takingBack, OnPile, State, start, onAnswer, goesIn, takeBackCall, afterTakingBack, stateAfter}
 
 -- the buffer that each call is lent, and what its caller sees of w written into it, and of a refusal
@@ -24,10 +25,10 @@ abbrev pub room : Bytes
 room = replicate 16 0xee
 
 abbrev pub accepted : Bytes → Result
-accepted w = record { number = 0; operation = 0; length = length w; buffer = w ++ replicate (16 - length w) 0xee }
+accepted w = record { number = 0; operation = 0; length = length w; place = noPlace; buffer = w ++ replicate (16 - length w) 0xee }
 
 abbrev pub refused : ℕ → ℕ → Result
-refused k i = record { number = k; operation = i; length = 0; buffer = room }
+refused k i = record { number = k; operation = i; length = 0; place = noPlace; buffer = room }
 
 -- inputs, and what the update call and the undo call show of them
 pub record Case : Type 0 where
@@ -42,6 +43,12 @@ case t l b w u = record { tuple = t; list = l; base = b; updates = accepted w; u
 
 abbrev pub refusedCase : Bytes → Bytes → ℕ → ℕ → ℕ → Case
 refusedCase t l b k i = record { tuple = t; list = l; base = b; updates = refused k i; undoes = refused k i }
+
+-- .. with a place
+abbrev pub spoiledCase : Bytes → Bytes → ℕ → ℕ → ℕ → Case
+spoiledCase t l b k p =
+    let r : Result = record { number = k; operation = 0; length = 0; place = atPlace p; buffer = room } in
+    record { tuple = t; list = l; base = b; updates = r; undoes = r }
 
 -- the case of the same inputs that the calls make
 abbrev pub computed : Case → Case
@@ -87,14 +94,20 @@ rules =
     -- fields 12 and 13 deep
     ∷ case (0x91 ∷ replicate 12 0x91 ++ (0x07 ∷ [])) (0x90 ∷ []) 0
     (0x91 ∷ replicate 12 0x91 ++ (0x07 ∷ [])) (0x90 ∷ [])
-    ∷ refusedCase (0x91 ∷ replicate 13 0x91 ++ (0x07 ∷ [])) (0x90 ∷ []) 0 11 0
+    ∷ spoiledCase (0x91 ∷ replicate 13 0x91 ++ (0x07 ∷ [])) (0x90 ∷ []) 0 11 13
     -- 11: no array, bytes left over, too few, broken, also where the list is outside the rules too
-    ∷ refusedCase [] (0x90 ∷ []) 0 11 0
+    ∷ spoiledCase [] (0x90 ∷ []) 0 11 0
     ∷ refusedCase (0x81 ∷ 0x01 ∷ 0x02 ∷ []) (0x90 ∷ []) 0 11 0
     ∷ refusedCase (0x91 ∷ 0x01 ∷ 0x02 ∷ []) (0x90 ∷ []) 0 11 0
-    ∷ refusedCase (0x92 ∷ 0x01 ∷ []) (0x90 ∷ []) 0 11 0
-    ∷ refusedCase (0x91 ∷ 0xc1 ∷ []) (0x90 ∷ []) 0 11 0
-    ∷ refusedCase (0x91 ∷ 0xc1 ∷ []) (0xc1 ∷ []) 2 11 0
+    ∷ spoiledCase (0x92 ∷ 0x01 ∷ []) (0x90 ∷ []) 0 11 2
+    ∷ spoiledCase (0x91 ∷ 0xc1 ∷ []) (0x90 ∷ []) 0 11 1
+    ∷ spoiledCase (0x91 ∷ 0xc1 ∷ []) (0xc1 ∷ []) 2 11 1
+    -- "whichever other cause stands beside it": no array, more than 64 fields, more than 16,384 bytes; of these alone, no place
+    ∷ spoiledCase (0x81 ∷ 0x01 ∷ 0xc1 ∷ []) (0x90 ∷ []) 0 11 2
+    ∷ spoiledCase (0xdc ∷ 0x00 ∷ 0x41 ∷ replicate 64 0x07 ++ (0xc1 ∷ [])) (0x90 ∷ []) 0 11 67
+    ∷ refusedCase (0xdc ∷ 0x00 ∷ 0x41 ∷ replicate 65 0x07) (0x90 ∷ []) 0 11 0
+    ∷ spoiledCase (0x92 ∷ 0xc5 ∷ 0x3f ∷ 0xfc ∷ replicate 0x3ffc 0x00 ++ (0xc1 ∷ [])) (0x90 ∷ []) 0 11 16384
+    ∷ refusedCase (0x92 ∷ 0xc5 ∷ 0x3f ∷ 0xfc ∷ replicate 0x3ffc 0x00 ++ (0x07 ∷ [])) (0x90 ∷ []) 0 11 0
     -- 12: base, shape, mark, field number, argument, p below 0; also where an operation before it would be refused
     ∷ refusedCase (0x91 ∷ 0x01 ∷ []) (0x90 ∷ []) 2 12 0
     ∷ refusedCase (0x91 ∷ 0x01 ∷ []) (0x90 ∷ 0x00 ∷ []) 0 12 0
@@ -106,9 +119,24 @@ rules =
     ∷ refusedCase (0x91 ∷ 0x01 ∷ []) (0x91 ∷ 0x93 ∷ 0xa1 ∷ 0x2b ∷ 0x00 ∷ 0xc0 ∷ []) 0 12 0
     ∷ refusedCase (0x91 ∷ 0x01 ∷ []) (0x91 ∷ 0x93 ∷ 0xa1 ∷ 0x26 ∷ 0x00 ∷ 0xff ∷ []) 0 12 0
     ∷ refusedCase (0x91 ∷ 0x01 ∷ []) (0x91 ∷ 0x93 ∷ 0xa1 ∷ 0x23 ∷ 0x00 ∷ 0x00 ∷ []) 0 12 0
-    ∷ refusedCase (0x91 ∷ 0x01 ∷ []) (0x91 ∷ 0x93 ∷ 0xa1 ∷ 0x3d ∷ 0x00 ∷ replicate 13 0x91 ++ (0x07 ∷ [])) 0 12 0
+    ∷ spoiledCase (0x91 ∷ 0x01 ∷ []) (0x91 ∷ 0x93 ∷ 0xa1 ∷ 0x3d ∷ 0x00 ∷ replicate 13 0x91 ++ (0x07 ∷ [])) 0 12 17
     ∷ refusedCase (0x91 ∷ 0xa1 ∷ 0x61 ∷ []) (0x91 ∷ 0x95 ∷ 0xa1 ∷ 0x3a ∷ 0x01 ∷ 0x00 ∷ 0x01 ∷ 0xa0 ∷ []) 1 12 0
     ∷ refusedCase (0x91 ∷ 0x01 ∷ []) (0x92 ∷ 0x93 ∷ 0xa1 ∷ 0x2b ∷ 0x09 ∷ 0x01 ∷ 0x93 ∷ 0xa1 ∷ 0x2b ∷ 0x09 ∷ 0x90 ∷ []) 0 12 0
+    -- its place: where the list is broken, though the mark before it or after it is wrong, the index base is 7, or it is too long
+    ∷ spoiledCase (0x91 ∷ 0x01 ∷ []) [] 0 12 0
+    ∷ spoiledCase (0x91 ∷ 0x01 ∷ []) (0x92 ∷ 0x93 ∷ 0xa1 ∷ 0x3f ∷ 0x00 ∷ 0x01 ∷ 0x93 ∷ 0xa1 ∷ 0x2b ∷ 0x00 ∷ 0xc1 ∷ []) 0 12 10
+    ∷ spoiledCase (0x91 ∷ 0x01 ∷ []) (0x92 ∷ 0x93 ∷ 0xa1 ∷ 0x2b ∷ 0x00 ∷ 0xc1 ∷ 0x93 ∷ 0xa1 ∷ 0x3f ∷ 0x00 ∷ 0x01 ∷ []) 0 12 5
+    ∷ spoiledCase (0x91 ∷ 0x01 ∷ []) (0x91 ∷ 0x93 ∷ 0xa1 ∷ 0x2b ∷ 0x00 ∷ []) 7 12 5
+    ∷ spoiledCase (0x91 ∷ 0x01 ∷ []) (0x91 ∷ 0x93 ∷ 0xa1 ∷ 0x3d ∷ 0x00 ∷ 0xc5 ∷ 0x90 ∷ 0x00 ∷ replicate 0x8000 0x00) 0 12 32776
+    -- .. is no array, has more than 64 operations, or is too deep but in an argument
+    ∷ spoiledCase (0x91 ∷ 0x01 ∷ []) (0x81 ∷ 0x01 ∷ 0xc1 ∷ []) 0 12 2
+    ∷ spoiledCase (0x91 ∷ 0x01 ∷ []) (0xdc ∷ 0x00 ∷ 0x41 ∷ joined (replicate 64 (0x93 ∷ 0xa1 ∷ 0x3d ∷ 0x00 ∷ 0x07 ∷ [])) ++ (0xc1 ∷ [])) 0 12 323
+    ∷ spoiledCase (0x91 ∷ 0x01 ∷ []) (replicate 15 0x91) 0 12 14
+    -- no place: more than 64 operations or 32,768 bytes alone; a wrong mark, beside an argument 12 deep; bytes left over, whatever they are
+    ∷ refusedCase (0x91 ∷ 0x01 ∷ []) (0xdc ∷ 0x00 ∷ 0x41 ∷ joined (replicate 65 (0x93 ∷ 0xa1 ∷ 0x3d ∷ 0x00 ∷ 0x07 ∷ []))) 0 12 0
+    ∷ refusedCase (0x91 ∷ 0x01 ∷ []) (0x91 ∷ 0x93 ∷ 0xa1 ∷ 0x3d ∷ 0x00 ∷ 0xc5 ∷ 0x80 ∷ 0x00 ∷ replicate 0x8000 0x00) 0 12 0
+    ∷ refusedCase (0x91 ∷ 0x01 ∷ []) (0x91 ∷ 0x93 ∷ 0xa1 ∷ 0x3f ∷ 0x00 ∷ replicate 12 0x91 ++ (0x07 ∷ [])) 0 12 0
+    ∷ refusedCase (0x91 ∷ 0x01 ∷ []) (0x90 ∷ 0xc1 ∷ []) 0 12 0
     -- 13, with the operation's index: past n, below 0
     ∷ refusedCase (0x91 ∷ 0x01 ∷ []) (0x91 ∷ 0x93 ∷ 0xa1 ∷ 0x3d ∷ 0x02 ∷ 0x09 ∷ []) 0 13 0
     ∷ refusedCase (0x91 ∷ 0x01 ∷ []) (0x92 ∷ 0x93 ∷ 0xa1 ∷ 0x3d ∷ 0x00 ∷ 0x05 ∷ 0x93 ∷ 0xa1 ∷ 0x23 ∷ 0x01 ∷ 0x01 ∷ []) 0 13 1
@@ -168,7 +196,7 @@ showing s [] = []
 showing s (e ∷ es) = shown (answerOf s e) (stateAfter s e .tuple) (map (λ (x : OnPile). x .list) (stateAfter s e .pile)) ∷ showing (stateAfter s e) es
 
 abbrev pub tooShort : Bytes → Result
-tooShort out = record { number = 18; operation = 0; length = 0; buffer = out }
+tooShort out = record { number = 18; operation = 0; length = 0; place = noPlace; buffer = out }
 
 -- the undo lists of the two updates that go in
 abbrev pub undoPlus : Bytes
@@ -186,10 +214,10 @@ sequence =
     ∷ shown (some (tooShort (0x00 ∷ []))) (0x92 ∷ 0x2a ∷ 0x06 ∷ []) (undoInsert ∷ undoPlus ∷ [])
     ∷ shown (some (tooShort (0x00 ∷ []))) (0x92 ∷ 0x2a ∷ 0x06 ∷ []) (undoInsert ∷ undoPlus ∷ [])
     ∷ shown (some (accepted (0x91 ∷ 0x06 ∷ []))) (0x91 ∷ 0x06 ∷ []) (undoPlus ∷ [])
-    ∷ shown (some (record { number = 0; operation = 0; length = 4; buffer = 0x91 ∷ 0xcd ∷ 0x00 ∷ 0x05 ∷ [] })) (0x91 ∷ 0xcd ∷ 0x00 ∷ 0x05 ∷ []) []
+    ∷ shown (some (record { number = 0; operation = 0; length = 4; place = noPlace; buffer = 0x91 ∷ 0xcd ∷ 0x00 ∷ 0x05 ∷ [] })) (0x91 ∷ 0xcd ∷ 0x00 ∷ 0x05 ∷ []) []
     ∷ shown none (0x91 ∷ 0xcd ∷ 0x00 ∷ 0x05 ∷ []) []
     ∷ []
 
 pub worked : (map computed rules ≡ rules) × (showing (start first) events ≡ sequence)
-unfolding formOf sameKind number payload sized items byForm one tooDeep container value pieces joined dueIn due naturalOf unsignedBy unsigned twosComplement signedOf signedBy signed adding integer counted header bigEndian unsignedForm negativeForm stringHeader arrayHeader plain filling fieldsFilling fieldsBy fieldsOf onGot then made nothing valueFrom anyValue integerFrom anyInteger less floor atLeast position stringFrom string countFrom count mark three five actionOf operation before andMore operations listBy operationsOf asℤ ranged spliced became suited altered editAt fieldAt planOf plans fits limited perform step run operationBytes restored inverse undoOf judged onRun updateOf limitedList undoListOf update undo refusing writing delivered updateCall undoCall start onAnswer goesIn afterTakingBack stateAfter showing
+unfolding formOf sameKind number payload sized items byForm one tooDeep container value pieces joined dueIn due naturalOf unsignedBy unsigned twosComplement signedOf signedBy signed adding integer counted header bigEndian unsignedForm negativeForm stringHeader arrayHeader plain filling fieldsFilling fieldsBy fieldsOf onGot then made nothing valueFrom anyValue integerFrom anyInteger less floor atLeast position stringFrom string countFrom count mark three five actionOf operation before andMore operations listBy operationsOf asℤ ranged spliced became suited altered editAt fieldAt planOf plans fits limited perform step run operationBytes restored inverse undoOf judged onRun updateOf limitedList undoListOf update undo refusing writing delivered spoiledAt spoiledIn withPlace updateCall undoCall start onAnswer goesIn afterTakingBack stateAfter showing
 worked = (refl, refl)

@@ -11,6 +11,13 @@ maxTuple = 16384
 abbrev pub fieldDepth : ℕ
 fieldDepth = 12
 
+-- 02, 3/12: "Here a tuple is one value to depth 13, a list to depth 14."
+abbrev pub tupleDepth : ℕ
+tupleDepth = 13
+
+abbrev pub listDepth : ℕ
+listDepth = 14
+
 abbrev pub maxOperations : ℕ
 maxOperations = 64
 

@@ -1,5 +1,6 @@
 // Updating a tuple and undoing it: the definitions are in specs/, and the theorems about them are
 // what the functions below ensure. No code runs here.
+use msgpack_values::OptionalNumber;
 ghost use mathlib.Core.Path.{_≡_};
 ghost use mathlib.Core.List.{List, map};
 ghost use mathlib.Core.Option.{some};
@@ -8,12 +9,16 @@ ghost use Rattle.tuples.specs.Tuple.{Fields, fieldsOf};
 ghost use Rattle.tuples.specs.Sequence.{Event, start, Demand3};
 ghost use Rattle.tuples.specs.Examples.{computed, rules, first, events, showing, sequence};
 
-// Document 01's limits of tuples and of lists; `specs/Limits.antt` has the same.
+// The papers' limits of tuples and of lists; `specs/Limits.antt` has the same.
 pub const MAX_FIELDS: usize = 64;
 
 pub const MAX_TUPLE: usize = 16384;
 
 pub const FIELD_DEPTH: usize = 12;
+
+pub const TUPLE_DEPTH: usize = 13;
+
+pub const LIST_DEPTH: usize = 14;
 
 pub const MAX_OPERATIONS: usize = 64;
 
@@ -32,12 +37,14 @@ pub enum Refusal {
 }
 
 // A call's answer: 0 with the length written, or a refusal's number with length 0, and with 13 to
-// 16 the operation's index.
+// 16 the operation's index. With 11 the place of the first byte that spoils the tuple, read as one
+// value; with 12 that of the list; absent where that value is whole.
 #[repr(C)]
 pub struct Answer {
     pub number: u32,
     pub operation: u32,
     pub length: usize,
+    pub place: OptionalNumber,
 }
 
 // Demand 3: of every sequence of updates and takings back that starts from a tuple that 11 does not

@@ -19,7 +19,7 @@ use Rattle.tuples.specs.Tuple.{Fields, plain, fieldsBy, fieldsOf}
 use Rattle.tuples.specs.Decoding.{Got, fails, gets}
 use Rattle.tuples.specs.Operation.{Operation, operation, before, andMore, operations, operationsOf}
 use Rattle.tuples.specs.Edit.{planOf, Plan, plans, step, Step, stop, next, perform, Run, done, run, onward, undoOf, onStep, inverse}
-use Rattle.tuples.specs.Call.{Outcome, refusal, bytes, judged, onRun, updateOf, update, undoListOf, undo, Result, delivered, updateCall, undoCall}
+use Rattle.tuples.specs.Call.{Outcome, refusal, bytes, judged, onRun, updateOf, update, undoListOf, undo}
 use Rattle.tuples.specs.declared.Refusal.{Refusal, the-variants.BadTuple, the-variants.BadList}
 use Rattle.tuples.proofs.Legal.{plain-length}
 use Rattle.tuples.proofs.Tuple.{fields-legal, fields-short}
@@ -200,14 +200,6 @@ module _ (tuple list : Bytes) (base : ℕ) where
       laid = h .laid;
       piled = h .piled;
     }
-
-  pub seen-update : {o : Outcome} {r : Result} (out : Bytes) → update tuple list base ≡ o → r ≡ delivered o out → r ≡ updateCall tuple list base out
-  unfolding updateCall
-  seen-update out e h = h ∙ rw e
-
-  pub seen-undo : {o : Outcome} {r : Result} (out : Bytes) → undo tuple list base ≡ o → r ≡ delivered o out → r ≡ undoCall tuple list base out
-  unfolding undoCall
-  seen-undo out e h = h ∙ rw e
 
 -- the plain form of the fields that are held
 pub plain-held : {s : Bytes} {l : List ℕ} {n : ℕ} → Fit s l n → plain (fieldsIn s l n) ≡ arrayHeader n ++ take (endOf l n) s

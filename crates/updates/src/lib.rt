@@ -13,7 +13,7 @@ use tuples::Refusal;
 ghost use mathlib.Core.Path.{_≡_};
 ghost use Prim.Native.Nat.{_≤_};
 ghost use lib.ListN.{length};
-ghost use Rattle.tuples.specs.Call.{delivered, updateCall, undoCall};
+ghost use Rattle.tuples.specs.Call.{update, undo, delivered, updateCall, undoCall};
 ghost use Rattle.answers.specs.Seen.{seen};
 ghost use Rattle.updates.specs.Listing.{listIn, TriesUpdate, TriesUndo};
 ghost use Rattle.updates.specs.Carrying.{HasRoom};
@@ -64,7 +64,7 @@ fn update_in(
 
 // With room for every tuple within the limits.
 fn update_long(tuple: &[u8], list: &[u8], index_base: u64, out: &mut [u8]) -> Answer
-    ensures { λ r. ⌜ seen r (now (out .exit)) ≡ updateCall (now (tuple .entry)) (now (list .entry)) «index_base» (now (out .entry)) ⌝ }
+    ensures { λ r. ⌜ seen r (now (out .exit)) ≡ delivered (update (now (tuple .entry)) (now (list .entry)) «index_base») (now (out .entry)) ⌝ }
 {
     let mut scratch = [0u8; MAX_TUPLE];
     let mut work = [0u8; MAX_TUPLE];
@@ -75,10 +75,10 @@ fn update_long(tuple: &[u8], list: &[u8], index_base: u64, out: &mut [u8]) -> An
     answer
 }
 
-// The list's operations on the tuple; the new tuple into `out`. Short arrays are tried first: to zero
-// the long ones takes longer than a small update.
-pub fn update(tuple: &[u8], list: &[u8], index_base: u64, out: &mut [u8]) -> Answer
-    ensures { λ r. ⌜ seen r (now (out .exit)) ≡ updateCall (now (tuple .entry)) (now (list .entry)) «index_base» (now (out .entry)) ⌝ }
+// The update call, but for the place. Short arrays are tried first: to zero the long ones takes longer
+// than a small update.
+fn updated(tuple: &[u8], list: &[u8], index_base: u64, out: &mut [u8]) -> Answer
+    ensures { λ r. ⌜ seen r (now (out .exit)) ≡ delivered (update (now (tuple .entry)) (now (list .entry)) «index_base») (now (out .entry)) ⌝ }
 {
     if SHORT < tuple.len() {
         return update_long(tuple, list, index_base, out);
@@ -93,6 +93,14 @@ pub fn update(tuple: &[u8], list: &[u8], index_base: u64, out: &mut [u8]) -> Ans
         return update_long(tuple, list, index_base, out);
     };
     answer
+}
+
+// The list's operations on the tuple; the new tuple into `out`.
+pub fn update(tuple: &[u8], list: &[u8], index_base: u64, out: &mut [u8]) -> Answer
+    ensures { λ r. ⌜ seen r (now (out .exit)) ≡ updateCall (now (tuple .entry)) (now (list .entry)) «index_base» (now (out .entry)) ⌝ }
+{
+    let answer = updated(tuple, list, index_base, out);
+    answers::with_place(answer, tuple, list)
 }
 
 // The undo list of so many operations, whose bytes lie at the end of the buffer.
@@ -139,7 +147,7 @@ fn undo_in(
 
 // With room for every tuple and every undo list within the limits.
 fn undo_long(tuple: &[u8], list: &[u8], index_base: u64, out: &mut [u8]) -> Answer
-    ensures { λ r. ⌜ seen r (now (out .exit)) ≡ undoCall (now (tuple .entry)) (now (list .entry)) «index_base» (now (out .entry)) ⌝ }
+    ensures { λ r. ⌜ seen r (now (out .exit)) ≡ delivered (undo (now (tuple .entry)) (now (list .entry)) «index_base») (now (out .entry)) ⌝ }
 {
     let mut scratch = [0u8; MAX_TUPLE];
     let mut work = [0u8; MAX_TUPLE];
@@ -158,10 +166,9 @@ fn undo_long(tuple: &[u8], list: &[u8], index_base: u64, out: &mut [u8]) -> Answ
     answer
 }
 
-// What takes the list's operations on the tuple back; the undo list into `out`. Short arrays are
-// tried first, as for an update.
-pub fn undo(tuple: &[u8], list: &[u8], index_base: u64, out: &mut [u8]) -> Answer
-    ensures { λ r. ⌜ seen r (now (out .exit)) ≡ undoCall (now (tuple .entry)) (now (list .entry)) «index_base» (now (out .entry)) ⌝ }
+// The undo call, but for the place. Short arrays are tried first, as for an update.
+fn undone(tuple: &[u8], list: &[u8], index_base: u64, out: &mut [u8]) -> Answer
+    ensures { λ r. ⌜ seen r (now (out .exit)) ≡ delivered (undo (now (tuple .entry)) (now (list .entry)) «index_base») (now (out .entry)) ⌝ }
 {
     if SHORT < tuple.len() {
         return undo_long(tuple, list, index_base, out);
@@ -184,4 +191,12 @@ pub fn undo(tuple: &[u8], list: &[u8], index_base: u64, out: &mut [u8]) -> Answe
         return undo_long(tuple, list, index_base, out);
     };
     answer
+}
+
+// What takes the list's operations on the tuple back; the undo list into `out`.
+pub fn undo(tuple: &[u8], list: &[u8], index_base: u64, out: &mut [u8]) -> Answer
+    ensures { λ r. ⌜ seen r (now (out .exit)) ≡ undoCall (now (tuple .entry)) (now (list .entry)) «index_base» (now (out .entry)) ⌝ }
+{
+    let answer = undone(tuple, list, index_base, out);
+    answers::with_place(answer, tuple, list)
 }

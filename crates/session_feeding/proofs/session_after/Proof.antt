@@ -6,8 +6,8 @@ use Rattle.sessions.specs.Session.{sessionAfter}
 use Rattle.session_feeding.proofs.session_after.Statement.{statement}
 use Rattle.session_feeding.proofs.session_after.Tie as tie
 
-add-t12 : tie.Need-add-t12
-add-t12 c = let h = c .before .before .pre (c .if2 .taken) in omega arith
+add-t14 : tie.Need-add-t14
+add-t14 c = let h = c .before .before .pre (c .if2 .taken) in omega arith
 
 returns : tie.Need-returns
 unfolding sessionAfter
@@ -26,4 +26,4 @@ unfolding sessionAfter
 returns-4 c = rw (ne-eqb _ 0 (c .before .before .if1 .left), ne-eqb _ 1 (c .before .if2 .left), ne-eqb _ 0 (c .if3 .left))
 
 pub session-after-spec : {M : Type 1} → statement M
-session-after-spec = tie.close (tie.spec (λ c κs. search needs) returns add-t12 returns-2 returns-3 returns-4)
+session-after-spec = tie.close (tie.spec (λ c κs. search needs) returns add-t14 returns-2 returns-3 returns-4)

@@ -1,22 +1,14 @@
--- By short arrays or long ones. Assumes nothing.
-use mathlib.Core.Path.{ap, _∙_}
-use native.Mathlib.Omega.{arith}
-use Rattle.tuples.specs.Call.{undoCall}
+-- The answer with its place. Assumes nothing.
 use borrow.Author.Needs.{needs}
+use Rattle.tuples.specs.Call.{undoCall}
+use Rattle.answers.proofs.Written.{seen-placed}
 use Rattle.updates.proofs.undo.Statement.{statement}
 use Rattle.updates.proofs.undo.Tie as tie
 
-returns-3 : tie.Need-returns-3
-returns-3 c =
-    let u = c .before .before .before .before .before .before .before .before .before .before .before in
-    let a = u .before .before .before .before .before .before .before .before .before .before .args in
-    let n = rw (c .before .before .before .before .enum-told .given .1) at (u .undo-in .ensures) in
-    c .before .before .undo-long3 .ensures ∙ ap (undoCall (a .tuple .now) (a .list .now) (a .index-base)) (n .0)
-
 pub undo-spec : {M : Type 1} → statement M
+unfolding undoCall
 undo-spec =
-    tie.close (tie.spec (λ c κs. search needs) (λ c. search needs) (λ c. c .before .before .undo-long .ensures) (λ c κs. search needs)
-    (λ c. search needs) (λ c. c .before .before .undo-long2 .ensures) (λ c. search needs) (λ c. search needs) (λ c. search needs)
-    (λ c κs. let i = c .before .before .before .before .before in (λ _. omega (arith, i .if1 .left), omega arith))
-    (λ c. search needs) (λ c. search needs) (λ c κs. search needs) (λ c. search needs) returns-3 (λ c. search needs)
-    (λ c. rw (c .before .answer .given .1) at (c .before .before .before .before .before .before .before .before .undo-in .ensures)))
+    tie.close (tie.spec (λ c κs. search needs) (λ c κs. search needs) (λ c. search needs)
+    (λ c. let u = c .before .before .before in
+    let a = u .before .before .before .before .before .args in
+    seen-placed (a .tuple .now) (a .list .now) _ (u .undone .ensures) (c .with-place .ensures)))

@@ -3,8 +3,7 @@ use mathlib.Core.Path.{refl, sym, _∙_}
 use native.Mathlib.Omega.{arith}
 use Rattle.answers.proofs.Written.{seen-refusal}
 use Rattle.updates.specs.Carrying.{Refuses, Carried}
-use Rattle.updates.proofs.Calls.{seen-undo}
-use Rattle.updates.proofs.Lists.{limited-is, limited-past}
+use Rattle.updates.proofs.Lists.{seen-list, limited-is, limited-past}
 use borrow.Author.Needs.{needs}
 use Rattle.updates.proofs.undo_in.Statement.{statement}
 use Rattle.updates.proofs.undo_in.Tie as tie
@@ -28,7 +27,7 @@ returns-3 c =
     let k = c .before in
     let a = k .before .before .before .before .before .before .before .before .before .before .before .before .before .before .before .before .before .before .before .before .args in
     let x = k .before .refusal .given .0 in
-    seen-undo (a .tuple .now) (a .list .now) (a .index-base) (a .out .now) (refusing k .2) (seen-refusal (x .0) (x .1 .0) (a .out .now) (c .refused .ensures))
+    seen-list (a .out .now) (sym (refusing k .2)) (seen-refusal (x .0) (x .1 .0) (a .out .now) (c .refused .ensures))
 
 returns-4 : tie.Need-returns-4
 returns-4 c =
@@ -38,7 +37,7 @@ returns-4 c =
     let a = r .before .before .before .before .before .before .before .before .before .before .before .args in
     let z = k .before .stage .given .0 .0 in
     let t = carried k in
-    seen-undo (a .tuple .now) (a .list .now) (a .index-base) (a .out .now) (t .undone ∙ sym (limited-is (r .carry-out .last .1 .1 .1 .1 .1 .1 .0) (z .bytes) (z .laid) (t .us) (t .piled) (t .laid) (omega arith))) (f .finish .ensures)
+    seen-list (a .out .now) (limited-is (r .carry-out .last .1 .1 .1 .1 .1 .1 .0) (z .bytes) (z .laid) (t .us) (t .piled) (t .laid) (omega arith) ∙ sym (t .undone)) (f .finish .ensures)
 
 pub undo-in-spec : {M : Type 1} → statement M
 undo-in-spec =

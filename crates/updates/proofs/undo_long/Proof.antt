@@ -1,10 +1,10 @@
 -- The answer; or 17, since every list within the limits has room. Assumes nothing.
-use mathlib.Core.Path.{refl, ap, _∙_}
+use mathlib.Core.Path.{refl, sym, ap, _∙_}
 use native.Mathlib.Omega.{arith}
 use Rattle.answers.specs.Seen.{seen}
 use Rattle.tuples.specs.declared.Refusal.the-variants.{LongUndo}
 use Rattle.answers.proofs.Written.{seen-refusal}
-use Rattle.updates.proofs.Calls.{seen-undo}
+use Rattle.updates.proofs.Lists.{seen-list}
 use borrow.Author.Needs.{needs}
 use Rattle.updates.proofs.undo_long.Statement.{statement}
 use Rattle.updates.proofs.undo_long.Tie as tie
@@ -14,7 +14,7 @@ returns c =
     let u = c .before .before .before .before .before .before .before .before in
     let a = u .before .before .before .before .before .before .before .before .args in
     let n = rw (c .before .enum-told .given .1) at (u .undo-in .ensures) in
-    seen-undo (a .tuple .now) (a .list .now) (a .index-base) (a .out .now) (n .1 (omega arith) refl) (ap (seen (c .refused .result)) (n .0) ∙ seen-refusal LongUndo 0 (a .out .now) (c .refused .ensures))
+    seen-list (a .out .now) (sym (n .1 (omega arith) refl)) (ap (seen (c .refused .result)) (n .0) ∙ seen-refusal LongUndo 0 (a .out .now) (c .refused .ensures))
 
 pub undo-long-spec : {M : Type 1} → statement M
 undo-long-spec =

@@ -5,7 +5,8 @@ use lib.Seq.{length-take-le}
 use Rattle.tuples.specs.Call.{bytes}
 use Rattle.answers.proofs.Written.{seen-refusal}
 use Rattle.updates.specs.Carrying.{Refuses, Carried}
-use Rattle.updates.proofs.Calls.{plain-held, end-inside, seen-update}
+use Rattle.updates.proofs.Calls.{plain-held, end-inside}
+use Rattle.updates.proofs.Lists.{seen-list}
 use borrow.Author.Needs.{needs}
 use Rattle.updates.proofs.update_in.Statement.{statement}
 use Rattle.updates.proofs.update_in.Tie as tie
@@ -21,7 +22,7 @@ returns-2 c =
     let k = c .before in
     let a = k .before .before .before .before .before .before .before .before .before .before .before .before .before .before .before .before .before .before .args in
     let x = k .before .refusal .given .0 in
-    seen-update (a .tuple .now) (a .list .now) (a .index-base) (a .out .now) (refusing k .1) (seen-refusal (x .0) (x .1 .0) (a .out .now) (c .refused .ensures))
+    seen-list (a .out .now) (sym (refusing k .1)) (seen-refusal (x .0) (x .1 .0) (a .out .now) (c .refused .ensures))
 
 returns-3 : tie.Need-returns-3
 returns-3 c =
@@ -30,7 +31,7 @@ returns-3 c =
     let k = e .before .before in
     let a = k .before .before .before .before .before .before .before .before .before .before .before .before .before .before .before .before .before .before .args in
     let t = carried k in
-    seen-update (a .tuple .now) (a .list .now) (a .index-base) (a .out .now) (t .updated ∙ ap bytes (plain-held (t .fit))) (d .deliver .ensures ∙ rw (e .end-of .ensures))
+    seen-list (a .out .now) (sym (t .updated ∙ ap bytes (plain-held (t .fit)))) (d .deliver .ensures ∙ rw (e .end-of .ensures))
 
 pub update-in-spec : {M : Type 1} → statement M
 update-in-spec =
