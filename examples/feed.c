@@ -41,8 +41,11 @@ int main(void)
     printf("offset\tcode\tsync\tbytes\tfrom\n");
     while ((n = fread(piece, 1, sizeof piece, stdin)) > 0)
         if (!take(&session, piece, n)) {
-            printf("end refused %" PRIu32 " at %" PRIu64 ": %s\n", session.refused, session.offset,
+            printf("end refused %" PRIu32 " at %" PRIu64 ": %s", session.refused, session.offset,
                    lak_words(session.refused));
+            if (session.place.present)
+                printf(", at byte %" PRIu64 " of the frame", session.place.value);
+            printf("\n");
             return 1;
         }
     if (session.held > 0)

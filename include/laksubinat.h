@@ -6,19 +6,31 @@
  * What holds of every call, for all bytes, however damaged:
  *   - It ends and answers. `number` is 0 (LAK_OK), or the number of the one refusal that is due.
  *   - Refused: everything else in the answer is 0 and `out` keeps its bytes. Only 13 to 16 also
- *     give `operation`, the index from 0 of the operation that was refused. A feed's answer has
- *     more, and its carry buffer one change: see lak_session_feed.
+ *     give `operation`, the index from 0 of the operation that was refused, and only 4, 11 and 12
+ *     may give `place`, where a value broke: see below. A feed's answer has more, and its carry
+ *     buffer one change: see lak_session_feed.
  *   - Accepted: `length` bytes were written or read. Bytes of `out` past them are unchanged.
  *   - Nothing is kept between calls, no memory is allocated, and no other memory is written; so
  *     any thread may call. Stack, measured: lak_undo 81 KB, lak_update 42 KB, lak_frame_read and
  *     lak_session_feed 7 KB; the others less than 4 KB.
+ *
+ * `place` is where a value broke: the first byte that spoils it. That is an unused first byte (c1),
+ * the array or map that goes one too deep, or the end of the bytes where more were due, whichever
+ * is leftmost. It is present exactly
+ *   - with 4 in reading: counted from the value's first byte, or from that of the frame, whose
+ *     bytes end where its size says, also where more are lent;
+ *   - with 11 where the tuple, read as one value at most 13 deep, is broken, and with 12 where the
+ *     list is, at most 14 deep: counted from its first byte, whatever else is wrong beside it.
+ * Else it is absent, all 0. Bytes left over after a whole value do not break it; 11 says nothing of
+ * the list; lak_frame_write gives no place.
  *
  * What the caller owes, since C cannot ask for it and the proofs assume it:
  *   - A pointer is valid for the length beside it: inputs to be read, `out` and a feed's `carry`
  *     to be written.
  *   - `out` overlaps no input, and `carry` no piece. Inputs may overlap one another.
  *   - No other thread writes the lent bytes during the call.
- *   - `present` in a frame is true or false and not another byte; memset to 0 is an empty frame.
+ *   - `present` in a frame or session is true or false and not another byte; memset to 0 is an
+ *     empty frame.
  * With length 0 the pointer is never used: it may be NULL (tested, not proved).
  */
 #ifndef LAKSUBINAT_H
@@ -96,7 +108,7 @@ enum lak_room { LAK_FRAME_ROOM = 60005, LAK_TUPLE_ROOM = 16384, LAK_UNDO_ROOM = 
 /* What a carry buffer has at least: the longest frame, nine bytes of size number and 60,000. */
 enum { LAK_CARRY_ROOM = 60009 };
 
-/* A number that a frame may leave out. */
+/* A number that a frame may leave out, or the place where a value broke. */
 typedef struct {
     bool present;
     uint64_t value;
@@ -126,6 +138,7 @@ typedef struct {
     uint32_t number;
     uint64_t length;
     lak_frame frame;
+    lak_number place;
 } lak_frame_answer;
 
 /* A session: what one feed leaves for the next. No call trusts it: any value is answered.
@@ -134,11 +147,13 @@ typedef struct {
  *   held     how many bytes of the frame at hand stand at the carry buffer's start; of a refused
  *            frame 0 where it began in the piece that settled it
  *   refused  the number of the refused frame, or 0. No call leaves 1 here; any number but 0 that is
- *            handed in is repeated as it is, with nothing taken */
+ *            handed in is repeated as it is, with nothing taken
+ *   place    of the refused frame; repeated with `refused`, and not looked at where that is 0 */
 typedef struct {
     uint64_t offset;
     uint64_t held;
     uint32_t refused;
+    lak_number place;
 } lak_session;
 
 /* What opening a session answers. */
@@ -154,13 +169,15 @@ typedef struct {
  *   taken          how many bytes of the piece were taken, refused or not
  *   offset         where the frame at hand begins, refused or not
  *   length, frame  as lak_frame_read gives them; places count from the shown frame's first byte
- *   session        for the next feed */
+ *   session        for the next feed
+ *   place          as lak_frame_read gives it */
 typedef struct {
     uint32_t number;
     bool in_carry;
     uint64_t taken, offset, length;
     lak_frame frame;
     lak_session session;
+    lak_number place;
 } lak_session_answer;
 
 /* What writing answers: the length written. */
@@ -168,6 +185,7 @@ typedef struct {
     uint32_t number;
     uint32_t operation;
     uint64_t length;
+    lak_number place;
 } lak_answer;
 
 /* What reading a value answers.
@@ -186,6 +204,7 @@ typedef struct {
     uint64_t start;
     uint64_t size;
     uint8_t ext_type;
+    lak_number place;
 } lak_value_answer;
 
 /* The value at the front of `bytes`, at most 16 deep; nothing past its end is judged. Refuses: 4. */
@@ -212,14 +231,15 @@ lak_session lak_session_reset(void);
  *     earlier the missing bytes are put into `carry`, and it is shown from there.
  *   - A refused frame is taken up to the byte that settles it: the first for 2, the size number's
  *     last for 3, else the frame's last. Those of one begun earlier stand at the start of `carry`.
- *   - After a refused frame each feed repeats its number and offset, and takes and changes nothing
- *     until a reset. 19 too takes and changes nothing: the session comes back as it was.
+ *   - After a refused frame each feed repeats its number, offset and place, and takes and changes
+ *     nothing until a reset. 19 too takes and changes nothing, and has no place: the session comes
+ *     back as it was.
  * The rest of `carry` keeps its bytes. A frame shown from `carry` stays good until the next feed, one
  * shown in the piece as long as the piece. However a line's bytes are cut into pieces from an opening
- * or reset on, until all are taken or a frame is refused, the frames, the refusal and their offsets
- * are the same: for this each feed is given the session that the last one left, a piece from the
- * first byte not yet taken, and `carry` as the last feed left it. Beside what every call asks of its
- * caller nothing is asked, and nothing is trusted. */
+ * or reset on, until all are taken or a frame is refused, the frames, the refusal with its place and
+ * their offsets are the same: for this each feed is given the session that the last one left, a
+ * piece from the first byte not yet taken, and `carry` as the last feed left it. Beside what every
+ * call asks of its caller nothing is asked, and nothing is trusted. */
 lak_session_answer lak_session_feed(lak_session session, const uint8_t *piece, size_t n, uint8_t *carry, size_t room);
 
 /* The list's operations on the tuple, left to right; the new tuple into `out`. Field numbers count

@@ -11,10 +11,13 @@ HOLDS(place, sizeof(lak_place) == 24 && offsetof(lak_place, start) == 8 && offse
 HOLDS(frame, sizeof(lak_frame) == 8 + 8 * 16 + 8 * 24);
 HOLDS(frame_numbers, offsetof(lak_frame, sync) == 8 && offsetof(lak_frame, index_base) == 8 + 7 * 16);
 HOLDS(frame_places, offsetof(lak_frame, key) == 8 + 8 * 16 && offsetof(lak_frame, error) == 8 + 8 * 16 + 7 * 24);
-HOLDS(frame_answer, sizeof(lak_frame_answer) == 16 + sizeof(lak_frame) && offsetof(lak_frame_answer, frame) == 16);
-HOLDS(answer, sizeof(lak_answer) == 16 && offsetof(lak_answer, operation) == 4 && offsetof(lak_answer, length) == 8);
-HOLDS(value_answer, sizeof(lak_value_answer) == 48 && offsetof(lak_value_answer, kind) == 4);
+HOLDS(frame_answer, sizeof(lak_frame_answer) == 32 + sizeof(lak_frame) && offsetof(lak_frame_answer, frame) == 16);
+HOLDS(frame_answer_place, offsetof(lak_frame_answer, place) == 16 + sizeof(lak_frame));
+HOLDS(answer, sizeof(lak_answer) == 32 && offsetof(lak_answer, operation) == 4 && offsetof(lak_answer, length) == 8);
+HOLDS(answer_place, offsetof(lak_answer, place) == 16);
+HOLDS(value_answer, sizeof(lak_value_answer) == 64 && offsetof(lak_value_answer, kind) == 4);
 HOLDS(value_fields, offsetof(lak_value_answer, bits) == 16 && offsetof(lak_value_answer, ext_type) == 40);
+HOLDS(value_place, offsetof(lak_value_answer, place) == 48);
 HOLDS(ext_type, sizeof(((lak_value_answer *)0)->ext_type) == 1);
 
 /* ---- help */
@@ -37,11 +40,21 @@ static bool holds_only(const bytes *b)
     return memcmp(out, b->at, b->n) == 0;
 }
 
-/* Whether the call answered so, with these bytes in `out`; refused, with length 0 and no byte changed. */
+/* Whether the call answered so, with these bytes in `out`; refused, with length 0 and no byte changed. No value broke.
+ */
 static bool gave(lak_answer a, uint32_t number, uint32_t operation, const char *text)
 {
     hex(&wanted, number == LAK_OK ? text : "");
-    return a.number == number && a.operation == operation && a.length == wanted.n && holds_only(&wanted);
+    return a.number == number && a.operation == operation && a.length == wanted.n && no_number(a.place) &&
+           holds_only(&wanted);
+}
+
+/* Whether the call was refused so, with this place. */
+static bool broke(lak_answer a, uint32_t number, lak_number place)
+{
+    hex(&wanted, "");
+    return a.number == number && a.operation == 0 && a.length == 0 && same_number(a.place, place) &&
+           holds_only(&wanted);
 }
 
 /* ---- values */
@@ -52,25 +65,30 @@ typedef struct {
 } value_case;
 
 static const value_case values[] = {
-    {"c0", {LAK_OK, LAK_KIND_NIL, 1, 0, 0, 0, 0}},
-    {"c2", {LAK_OK, LAK_KIND_BOOLEAN, 1, 0, 0, 0, 0}},
-    {"c3 c1", {LAK_OK, LAK_KIND_BOOLEAN, 1, 1, 0, 0, 0}},
-    {"cd 00 05", {LAK_OK, LAK_KIND_FROM_ZERO, 3, 5, 0, 0, 0}},
-    {"cf ff ff ff ff ff ff ff ff", {LAK_OK, LAK_KIND_FROM_ZERO, 9, UINT64_MAX, 0, 0, 0}},
-    {"ff", {LAK_OK, LAK_KIND_BELOW_ZERO, 1, (uint64_t)-1, 0, 0, 0}},
-    {"d3 80 00 00 00 00 00 00 00", {LAK_OK, LAK_KIND_BELOW_ZERO, 9, (uint64_t)INT64_MIN, 0, 0, 0}},
-    {"ca 7f c0 00 01", {LAK_OK, LAK_KIND_FLOAT32, 5, 0x7fc00001, 0, 0, 0}},
-    {"cb bf f0 00 00 00 00 00 00", {LAK_OK, LAK_KIND_FLOAT64, 9, 0xbff0000000000000u, 0, 0, 0}},
-    {"a2 ff fe", {LAK_OK, LAK_KIND_STRING, 3, 0, 1, 2, 0}},
-    {"c4 01 07", {LAK_OK, LAK_KIND_BIN, 3, 0, 2, 1, 0}},
-    {"d4 85 07", {LAK_OK, LAK_KIND_EXT, 3, 0, 2, 1, 0x85}},
-    {"dd 00 00 00 01 07 07", {LAK_OK, LAK_KIND_ARRAY, 6, 0, 0, 6, 0}},
-    {"81 01 90", {LAK_OK, LAK_KIND_MAP, 3, 0, 0, 3, 0}},
-    {"91 91 91 91 91 91 91 91 91 91 91 91 91 91 91 90", {LAK_OK, LAK_KIND_ARRAY, 16, 0, 0, 16, 0}},
-    {"91 91 91 91 91 91 91 91 91 91 91 91 91 91 91 91 90", {LAK_BROKEN, 0, 0, 0, 0, 0, 0}},
-    {"", {LAK_BROKEN, 0, 0, 0, 0, 0, 0}},
-    {"c1", {LAK_BROKEN, 0, 0, 0, 0, 0, 0}},
-    {"c7 00", {LAK_BROKEN, 0, 0, 0, 0, 0, 0}},
+    {"c0", {LAK_OK, LAK_KIND_NIL, 1, 0, 0, 0, 0, NONE}},
+    {"c2", {LAK_OK, LAK_KIND_BOOLEAN, 1, 0, 0, 0, 0, NONE}},
+    {"c3 c1", {LAK_OK, LAK_KIND_BOOLEAN, 1, 1, 0, 0, 0, NONE}},
+    {"cd 00 05", {LAK_OK, LAK_KIND_FROM_ZERO, 3, 5, 0, 0, 0, NONE}},
+    {"cf ff ff ff ff ff ff ff ff", {LAK_OK, LAK_KIND_FROM_ZERO, 9, UINT64_MAX, 0, 0, 0, NONE}},
+    {"ff", {LAK_OK, LAK_KIND_BELOW_ZERO, 1, (uint64_t)-1, 0, 0, 0, NONE}},
+    {"d3 80 00 00 00 00 00 00 00", {LAK_OK, LAK_KIND_BELOW_ZERO, 9, (uint64_t)INT64_MIN, 0, 0, 0, NONE}},
+    {"ca 7f c0 00 01", {LAK_OK, LAK_KIND_FLOAT32, 5, 0x7fc00001, 0, 0, 0, NONE}},
+    {"cb bf f0 00 00 00 00 00 00", {LAK_OK, LAK_KIND_FLOAT64, 9, 0xbff0000000000000u, 0, 0, 0, NONE}},
+    {"a2 ff fe", {LAK_OK, LAK_KIND_STRING, 3, 0, 1, 2, 0, NONE}},
+    {"c4 01 07", {LAK_OK, LAK_KIND_BIN, 3, 0, 2, 1, 0, NONE}},
+    {"d4 85 07", {LAK_OK, LAK_KIND_EXT, 3, 0, 2, 1, 0x85, NONE}},
+    {"dd 00 00 00 01 07 07", {LAK_OK, LAK_KIND_ARRAY, 6, 0, 0, 6, 0, NONE}},
+    {"81 01 90", {LAK_OK, LAK_KIND_MAP, 3, 0, 0, 3, 0, NONE}},
+    {"91 91 91 91 91 91 91 91 91 91 91 91 91 91 91 90", {LAK_OK, LAK_KIND_ARRAY, 16, 0, 0, 16, 0, NONE}},
+    {"91 91 91 91 91 91 91 91 91 91 91 91 91 91 91 91 90", {LAK_BROKEN, 0, 0, 0, 0, 0, 0, AT(16)}},
+    {"92 91 91 91 91 91 91 91 91 91 91 91 91 91 91 91 91 c1", {LAK_BROKEN, 0, 0, 0, 0, 0, 0, AT(16)}},
+    {"92 c1 91 91 91 91 91 91 91 91 91 91 91 91 91 91 91 91", {LAK_BROKEN, 0, 0, 0, 0, 0, 0, AT(1)}},
+    {"", {LAK_BROKEN, 0, 0, 0, 0, 0, 0, AT(0)}},
+    {"c1", {LAK_BROKEN, 0, 0, 0, 0, 0, 0, AT(0)}},
+    {"93 05 c1 c1", {LAK_BROKEN, 0, 0, 0, 0, 0, 0, AT(2)}},
+    {"93 05 a1", {LAK_BROKEN, 0, 0, 0, 0, 0, 0, AT(3)}},
+    {"a3 61 c1", {LAK_BROKEN, 0, 0, 0, 0, 0, 0, AT(3)}},
+    {"c7 00", {LAK_BROKEN, 0, 0, 0, 0, 0, 0, AT(2)}},
 };
 
 static void check_values(void)
@@ -85,6 +103,7 @@ static void check_values(void)
                values[i].text);
         expect(a.bits == is->bits && a.start == is->start && a.size == is->size && a.ext_type == is->ext_type,
                "lak_value_read, content", values[i].text);
+        expect(same_number(a.place, is->place), "lak_value_read, place", values[i].text);
     }
 }
 
@@ -100,29 +119,39 @@ static const char every_key[] = "ce 00 00 00 2a 83 00 01 01 08 05 09 8e 10 01 11
 typedef struct {
     const char *text;
     uint32_t number;
+    lak_number place;
 } frame_case;
 
 static const frame_case refused_frames[] = {
-    {"", LAK_INCOMPLETE},
-    {"00", LAK_BAD_SIZE},
-    {"e0", LAK_NO_SIZE},
-    {"ce 00 00 ea 61", LAK_BAD_SIZE},
-    {"ce 00 00 ea 60", LAK_INCOMPLETE},
-    {"ce 00", LAK_INCOMPLETE},
-    {"01 c1", LAK_BROKEN},
-    {"03 80 80 00", LAK_LEFT_OVER},
-    {"01 90", LAK_BAD_MAP},
-    {"05 82 00 40 00 40", LAK_KEY_TWICE},
-    {"01 80", LAK_BAD_CODE},
-    {"05 81 00 cd 7f ff", LAK_BAD_CODE},
-    {"05 81 00 cd 90 00", LAK_BAD_CODE},
-    {"05 82 00 40 01 a0", LAK_BAD_HELD},
-    {"03 81 00 01", LAK_KEY_MISSING},
-    {"0f 81 00 01 85 10 01 11 02 13 04 14 05 20 91 06", LAK_KEY_MISSING},
-    {"09 81 00 01 82 10 01 20 91 06", LAK_KEY_MISSING},
-    {"09 81 00 04 82 10 01 20 91 06", LAK_KEY_MISSING},
-    {"06 81 00 05 81 10 01", LAK_KEY_MISSING},
-    {"0d 81 00 01 84 10 01 11 c0 12 03 20 91 06", LAK_BAD_HELD},
+    {"", LAK_INCOMPLETE, NONE},
+    {"00", LAK_BAD_SIZE, NONE},
+    {"e0", LAK_NO_SIZE, NONE},
+    {"ce 00 00 ea 61", LAK_BAD_SIZE, NONE},
+    {"ce 00 00 ea 60", LAK_INCOMPLETE, NONE},
+    {"ce 00", LAK_INCOMPLETE, NONE},
+    {"01 c1", LAK_BROKEN, AT(1)},
+    {"cd 00 01 c1", LAK_BROKEN, AT(3)},
+    {"03 82 00 40 01 01", LAK_BROKEN, AT(4)},
+    {"ce 00 00 00 08 81 00 40 82 30 c0 31 c1 c1", LAK_BROKEN, AT(12)},
+    {"cf 00 00 00 00 00 00 00 08 81 00 40 81 30 a3 61 62 63", LAK_BROKEN, AT(17)},
+    {"14 82 00 40 7e 91 91 91 91 91 91 91 91 91 91 91 91 91 91 91 90", LAK_BROKEN, AT(20)},
+    {"15 81 00 40 81 7e 91 91 91 91 91 91 91 91 91 91 91 91 91 91 91 90", LAK_BROKEN, AT(21)},
+    {"02 c0 c1", LAK_BROKEN, AT(2)},
+    {"03 c1", LAK_INCOMPLETE, NONE},
+    {"05 81 00 40 80 c1", LAK_LEFT_OVER, NONE},
+    {"03 80 80 00", LAK_LEFT_OVER, NONE},
+    {"01 90", LAK_BAD_MAP, NONE},
+    {"05 82 00 40 00 40", LAK_KEY_TWICE, NONE},
+    {"01 80", LAK_BAD_CODE, NONE},
+    {"05 81 00 cd 7f ff", LAK_BAD_CODE, NONE},
+    {"05 81 00 cd 90 00", LAK_BAD_CODE, NONE},
+    {"05 82 00 40 01 a0", LAK_BAD_HELD, NONE},
+    {"03 81 00 01", LAK_KEY_MISSING, NONE},
+    {"0f 81 00 01 85 10 01 11 02 13 04 14 05 20 91 06", LAK_KEY_MISSING, NONE},
+    {"09 81 00 01 82 10 01 20 91 06", LAK_KEY_MISSING, NONE},
+    {"09 81 00 04 82 10 01 20 91 06", LAK_KEY_MISSING, NONE},
+    {"06 81 00 05 81 10 01", LAK_KEY_MISSING, NONE},
+    {"0d 81 00 01 84 10 01 11 c0 12 03 20 91 06", LAK_BAD_HELD, NONE},
 };
 
 typedef struct {
@@ -159,8 +188,8 @@ static void check_kinds(void)
         lak_frame_answer a;
         hex(&first, kinds[i].text);
         a = lak_frame_read(first.at, first.n);
-        expect(a.number == LAK_OK && a.length == first.n && a.frame.code == kinds[i].code, "lak_frame_read",
-               kinds[i].text);
+        expect(a.number == LAK_OK && a.length == first.n && a.frame.code == kinds[i].code && no_number(a.place),
+               "lak_frame_read", kinds[i].text);
         fresh();
         expect(lak_frame_write(a.frame, first.at, first.n, out, sizeof out).number == LAK_OK, "lak_frame_write",
                kinds[i].text);
@@ -193,6 +222,7 @@ static void check_refused_frames(void)
         a = lak_frame_read(first.at, first.n);
         expect(a.number == refused_frames[i].number && a.length == 0 && is_empty(a.frame), "lak_frame_read",
                refused_frames[i].text);
+        expect(same_number(a.place, refused_frames[i].place), "lak_frame_read, place", refused_frames[i].text);
     }
 }
 
@@ -266,6 +296,9 @@ static void check_refused_writing(void)
     f = insert(512);
     f.tuple.start = 1;
     refuses(f, LAK_BROKEN, "a place past the bytes");
+    hex(&first, "91 c1");
+    refuses(insert(512), LAK_BROKEN, "a broken value");
+    hex(&first, "91 05");
     refuses(insert(4294967296u), LAK_BAD_HELD, "space above 32 bits");
     f = insert(512);
     f.space.present = false;
@@ -427,7 +460,67 @@ static void check_64_fields(void)
            "lak_update", "whose undo list is too long");
 }
 
-/* ---- the longest that is written */
+/* ---- where a tuple or a list broke, whatever else is wrong beside it */
+
+typedef struct {
+    const char *tuple, *list;
+    uint64_t base;
+    uint32_t number;
+    lak_number place;
+} broken_case;
+
+#define ARRAYS_12 "91 91 91 91 91 91 91 91 91 91 91 90"
+#define ARRAYS_13 "91 " ARRAYS_12
+
+static const broken_case broken[] = {
+    {"", "90", 0, LAK_BAD_TUPLE, AT(0)},
+    {"c1", "90", 0, LAK_BAD_TUPLE, AT(0)},
+    {"92 01 c1", "c1", 7, LAK_BAD_TUPLE, AT(2)},
+    {"92 01 a1", "90", 0, LAK_BAD_TUPLE, AT(3)},
+    {"81 01 c1", "90", 0, LAK_BAD_TUPLE, AT(2)},
+    {"dd ff ff ff ff 05", "90", 0, LAK_BAD_TUPLE, AT(6)},
+    {"91 " ARRAYS_13, "90", 0, LAK_BAD_TUPLE, AT(13)},
+    {"92 " ARRAYS_12 " " ARRAYS_13, "90", 0, LAK_BAD_TUPLE, AT(25)},
+    {"81 00 " ARRAYS_12, "90", 0, LAK_BAD_TUPLE, NONE},
+    {"81 00 " ARRAYS_13, "90", 0, LAK_BAD_TUPLE, AT(14)},
+    {"91 01 c1", "c1", 0, LAK_BAD_TUPLE, NONE},
+    {"c0", "c1", 0, LAK_BAD_TUPLE, NONE},
+    {"91 01", "", 0, LAK_BAD_LIST, AT(0)},
+    {"91 01", "c1", 0, LAK_BAD_LIST, AT(0)},
+    {"91 01", "91 93 a1 3d 00 c1", 0, LAK_BAD_LIST, AT(5)},
+    {"91 01", "91 93 a1 3d 00 c1", 7, LAK_BAD_LIST, AT(5)},
+    {"91 01", "91 93 a1 3d 00", 0, LAK_BAD_LIST, AT(5)},
+    {"91 01", "91 93 a1 3d 00 " ARRAYS_13, 0, LAK_BAD_LIST, AT(17)},
+    {"91 01", "91 93 a1 2b 00 " ARRAYS_12, 0, LAK_BAD_LIST, NONE},
+    {"91 01", "91 93 a1 2b 00 " ARRAYS_13, 0, LAK_BAD_LIST, AT(17)},
+    {"91 01", "92 93 a1 2a 00 01 93 a1 3d 00 c1", 0, LAK_BAD_LIST, AT(10)},
+    {"91 01", "92 93 a1 3d 00 c1 93 a1 2a 00 01", 0, LAK_BAD_LIST, AT(5)},
+    {"91 01", "91 93 a1 2a 00 01", 0, LAK_BAD_LIST, NONE},
+    {"91 01", "91 93 a1 3d 00 01 c1", 0, LAK_BAD_LIST, NONE},
+    {"91 01", "90", 7, LAK_BAD_LIST, NONE},
+};
+
+/* Both calls on `first` and `second`. */
+static void breaks(uint64_t base, uint32_t number, lak_number place, const char *what)
+{
+    fresh();
+    expect(broke(lak_update(first.at, first.n, second.at, second.n, base, out, LAK_TUPLE_ROOM), number, place),
+           "lak_update, place", what);
+    fresh();
+    expect(broke(lak_undo(first.at, first.n, second.at, second.n, base, out, LAK_UNDO_ROOM), number, place),
+           "lak_undo, place", what);
+}
+
+static void check_broken(void)
+{
+    size_t i;
+    for (i = 0; i < sizeof broken / sizeof broken[0]; i++) {
+        const broken_case *b = &broken[i];
+        hex(&first, b->tuple);
+        hex(&second, b->list);
+        breaks(b->base, b->number, b->place, b->number == LAK_BAD_TUPLE ? b->tuple : b->list);
+    }
+}
 
 /* An array or bin whose header is this, filled up with zeros to `n` bytes. */
 static void filled(bytes *b, const char *header, size_t n)
@@ -436,6 +529,34 @@ static void filled(bytes *b, const char *header, size_t n)
     memset(b->at + b->n, 0, n - b->n);
     b->n = n;
 }
+
+/* Too many and too long, with a last byte that is c1 or missing, and with nothing broken. */
+static void check_broken_past_the_limits(void)
+{
+    const lak_number none = NONE, fields = AT(67), tuple = AT(16385), list = AT(32769);
+    hex(&second, "91 c1");
+    filled(&first, "dc 00 41", 68);
+    breaks(7, LAK_BAD_TUPLE, none, "65 fields");
+    first.at[67] = 0xc1;
+    breaks(7, LAK_BAD_TUPLE, fields, "65 fields, c1 last");
+    first.n = 67;
+    breaks(7, LAK_BAD_TUPLE, fields, "65 fields, the last missing");
+    filled(&first, "92 c5 3f fd", 16386);
+    breaks(7, LAK_BAD_TUPLE, none, "a tuple too long");
+    first.at[16385] = 0xc1;
+    breaks(7, LAK_BAD_TUPLE, tuple, "a tuple too long, c1 last");
+    first.n = 16385;
+    breaks(7, LAK_BAD_TUPLE, tuple, "a tuple too long, the last field missing");
+    hex(&first, "91 01");
+    filled(&second, "92 93 a1 3d 00 c5 7f f9", 32770);
+    breaks(0, LAK_BAD_LIST, none, "a list too long");
+    second.at[32769] = 0xc1;
+    breaks(7, LAK_BAD_LIST, list, "a list too long, c1 last");
+    second.n = 32769;
+    breaks(7, LAK_BAD_LIST, list, "a list too long, the last operation missing");
+}
+
+/* ---- the longest that is written */
 
 static void check_longest_frame(void)
 {
@@ -491,6 +612,7 @@ static void check_null(void)
     hex(&first, "91 01");
     hex(&second, "90");
     expect(lak_value_read(NULL, 0).number == LAK_BROKEN, "lak_value_read", "NULL");
+    expect(lak_value_read(NULL, 0).place.present, "lak_value_read", "NULL, place");
     expect(lak_frame_read(NULL, 0).number == LAK_INCOMPLETE, "lak_frame_read", "NULL");
     expect(lak_frame_write(ping, NULL, 0, NULL, 0).number == LAK_SHORT_BUFFER, "lak_frame_write", "NULL");
     fresh();
@@ -532,6 +654,8 @@ int main(void)
     check_updates();
     check_taking_back();
     check_64_fields();
+    check_broken();
+    check_broken_past_the_limits();
     check_longest_frame();
     check_longest_tuple();
     check_longest_undo();

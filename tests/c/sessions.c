@@ -2,12 +2,14 @@
  * the whole carry buffer after it. Valid C99 and C++11; the last line is `N passed, M failed`. */
 #include "testing.h"
 
-HOLDS(session, sizeof(lak_session) == 24 && offsetof(lak_session, held) == 8 && offsetof(lak_session, refused) == 16);
-HOLDS(opening, sizeof(lak_session_opening) == 32 && offsetof(lak_session_opening, session) == 8);
-HOLDS(answer, sizeof(lak_session_answer) == 56 + sizeof(lak_frame) && offsetof(lak_session_answer, in_carry) == 4);
+HOLDS(session, sizeof(lak_session) == 40 && offsetof(lak_session, held) == 8 && offsetof(lak_session, refused) == 16);
+HOLDS(session_place, offsetof(lak_session, place) == 24);
+HOLDS(opening, sizeof(lak_session_opening) == 48 && offsetof(lak_session_opening, session) == 8);
+HOLDS(answer, sizeof(lak_session_answer) == 88 + sizeof(lak_frame) && offsetof(lak_session_answer, in_carry) == 4);
 HOLDS(counts, offsetof(lak_session_answer, taken) == 8 && offsetof(lak_session_answer, offset) == 16);
 HOLDS(shown, offsetof(lak_session_answer, length) == 24 && offsetof(lak_session_answer, frame) == 32);
 HOLDS(left, offsetof(lak_session_answer, session) == 32 + sizeof(lak_frame));
+HOLDS(place, offsetof(lak_session_answer, place) == 72 + sizeof(lak_frame));
 
 /* ---- one feed */
 
@@ -15,7 +17,8 @@ HOLDS(left, offsetof(lak_session_answer, session) == 32 + sizeof(lak_frame));
 static uint8_t carry[LAK_CARRY_ROOM + 100];
 static bytes piece, begun;
 
-/* A piece, what its feed answers, and what stands at the carry buffer's start after it. */
+/* A piece, what its feed answers, and what stands at the carry buffer's start after it. The answer's place is that of
+ * the session that is left. */
 typedef struct {
     const char *piece;
     uint32_t number;
@@ -46,12 +49,7 @@ static bool carries(const char *text)
 
 static bool same_session(lak_session a, lak_session b)
 {
-    return a.offset == b.offset && a.held == b.held && a.refused == b.refused;
-}
-
-static bool same_number(lak_number a, lak_number b)
-{
-    return a.present == b.present && a.value == b.value;
+    return a.offset == b.offset && a.held == b.held && a.refused == b.refused && same_number(a.place, b.place);
 }
 
 static bool same_place(lak_place a, lak_place b)
@@ -80,6 +78,7 @@ static lak_session feed(lak_session session, const step *s, const char *what)
     expect(a.taken == s->taken && a.offset == s->offset, what, "taken and offset");
     expect(right_record(&a, piece.at), what, "the record");
     expect(same_session(a.session, s->left), what, "the session that is left");
+    expect(same_number(a.place, s->left.place), what, "the place");
     expect(carries(s->carry), what, "the carry buffer");
     return a.session;
 }
@@ -102,6 +101,24 @@ static lak_session forged(uint64_t offset, uint64_t held, uint32_t refused)
     s.offset = offset;
     s.held = held;
     s.refused = refused;
+    s.place.present = false;
+    s.place.value = 0;
+    return s;
+}
+
+/* The same with a place; and with a value where there is none. */
+static lak_session forged_at(uint64_t offset, uint64_t held, uint32_t refused, uint64_t place)
+{
+    lak_session s = forged(offset, held, refused);
+    s.place.present = true;
+    s.place.value = place;
+    return s;
+}
+
+static lak_session absent_at(uint64_t offset, uint64_t held, uint32_t refused, uint64_t place)
+{
+    lak_session s = forged_at(offset, held, refused, place);
+    s.place.present = false;
     return s;
 }
 
@@ -112,40 +129,42 @@ static lak_session forged(uint64_t offset, uint64_t held, uint32_t refused)
 #define SELECT "11 81 00 01 86 10 01 11 02 12 03 13 04 14 05 20 91 06"
 
 static const step in_one_piece[] = {
-    {PING, LAK_OK, false, 6, 0, 6, {6, 0, 0}, ""},
-    {SELECT, LAK_OK, false, 18, 6, 18, {24, 0, 0}, ""},
+    {PING, LAK_OK, false, 6, 0, 6, {6, 0, 0, NONE}, ""},
+    {SELECT, LAK_OK, false, 18, 6, 18, {24, 0, 0, NONE}, ""},
 };
 
 static const step cut_in_three[] = {
-    {"05 82", LAK_INCOMPLETE, false, 2, 0, 0, {0, 2, 0}, "05 82"},
-    {"00", LAK_INCOMPLETE, false, 1, 0, 0, {0, 3, 0}, "05 82 00"},
-    {"40 01 07 03 81", LAK_OK, true, 3, 0, 6, {6, 0, 0}, PING},
-    {"03 81", LAK_INCOMPLETE, false, 2, 6, 0, {6, 2, 0}, "03 81 00 40 01 07"},
-    {"00 00 " OK_FRAME, LAK_OK, true, 2, 6, 4, {10, 0, 0}, "03 81 00 00 01 07"},
-    {OK_FRAME, LAK_OK, false, 4, 10, 4, {14, 0, 0}, "03 81 00 00 01 07"},
+    {"05 82", LAK_INCOMPLETE, false, 2, 0, 0, {0, 2, 0, NONE}, "05 82"},
+    {"00", LAK_INCOMPLETE, false, 1, 0, 0, {0, 3, 0, NONE}, "05 82 00"},
+    {"40 01 07 03 81", LAK_OK, true, 3, 0, 6, {6, 0, 0, NONE}, PING},
+    {"03 81", LAK_INCOMPLETE, false, 2, 6, 0, {6, 2, 0, NONE}, "03 81 00 40 01 07"},
+    {"00 00 " OK_FRAME, LAK_OK, true, 2, 6, 4, {10, 0, 0, NONE}, "03 81 00 00 01 07"},
+    {OK_FRAME, LAK_OK, false, 4, 10, 4, {14, 0, 0, NONE}, "03 81 00 00 01 07"},
 };
 
 static const step places_from_the_frame[] = {
-    {"11 81 00 01 86 10 01 11 02", LAK_INCOMPLETE, false, 9, 0, 0, {0, 9, 0}, "11 81 00 01 86 10 01 11 02"},
-    {"12 03 13 04 14 05 20 91 06", LAK_OK, true, 9, 0, 18, {18, 0, 0}, SELECT},
+    {"11 81 00 01 86 10 01 11 02", LAK_INCOMPLETE, false, 9, 0, 0, {0, 9, 0, NONE}, "11 81 00 01 86 10 01 11 02"},
+    {"12 03 13 04 14 05 20 91 06", LAK_OK, true, 9, 0, 18, {18, 0, 0, NONE}, SELECT},
 };
 
 static const step two_in_one_piece[] = {
-    {PING " " OK_FRAME, LAK_OK, false, 6, 0, 6, {6, 0, 0}, ""},
-    {OK_FRAME, LAK_OK, false, 4, 6, 4, {10, 0, 0}, ""},
+    {PING " " OK_FRAME, LAK_OK, false, 6, 0, 6, {6, 0, 0, NONE}, ""},
+    {OK_FRAME, LAK_OK, false, 4, 6, 4, {10, 0, 0, NONE}, ""},
 };
 
 static const step empty_pieces[] = {
-    {"", LAK_INCOMPLETE, false, 0, 0, 0, {0, 0, 0}, ""},   {"05", LAK_INCOMPLETE, false, 1, 0, 0, {0, 1, 0}, "05"},
-    {"", LAK_INCOMPLETE, false, 0, 0, 0, {0, 1, 0}, "05"}, {"82 00 40 01 07", LAK_OK, true, 5, 0, 6, {6, 0, 0}, PING},
-    {"", LAK_INCOMPLETE, false, 0, 6, 0, {6, 0, 0}, PING},
+    {"", LAK_INCOMPLETE, false, 0, 0, 0, {0, 0, 0, NONE}, ""},
+    {"05", LAK_INCOMPLETE, false, 1, 0, 0, {0, 1, 0, NONE}, "05"},
+    {"", LAK_INCOMPLETE, false, 0, 0, 0, {0, 1, 0, NONE}, "05"},
+    {"82 00 40 01 07", LAK_OK, true, 5, 0, 6, {6, 0, 0, NONE}, PING},
+    {"", LAK_INCOMPLETE, false, 0, 6, 0, {6, 0, 0, NONE}, PING},
 };
 
 static const step cut_in_the_size[] = {
-    {"ce", LAK_INCOMPLETE, false, 1, 0, 0, {0, 1, 0}, "ce"},
-    {"00 00", LAK_INCOMPLETE, false, 2, 0, 0, {0, 3, 0}, "ce 00 00"},
-    {"00 03 81 00", LAK_INCOMPLETE, false, 4, 0, 0, {0, 7, 0}, "ce 00 00 00 03 81 00"},
-    {"40 e0", LAK_OK, true, 1, 0, 8, {8, 0, 0}, "ce 00 00 00 03 81 00 40"},
+    {"ce", LAK_INCOMPLETE, false, 1, 0, 0, {0, 1, 0, NONE}, "ce"},
+    {"00 00", LAK_INCOMPLETE, false, 2, 0, 0, {0, 3, 0, NONE}, "ce 00 00"},
+    {"00 03 81 00", LAK_INCOMPLETE, false, 4, 0, 0, {0, 7, 0, NONE}, "ce 00 00 00 03 81 00"},
+    {"40 e0", LAK_OK, true, 1, 0, 8, {8, 0, 0, NONE}, "ce 00 00 00 03 81 00 40"},
 };
 
 static void check_frames(void)
@@ -161,39 +180,47 @@ static void check_frames(void)
 /* ---- refusals: how far a refused frame is taken, and that each feed after it repeats the answer */
 
 static const step no_size[] = {
-    {PING " e0 05", LAK_OK, false, 6, 0, 6, {6, 0, 0}, ""},
-    {"e0 05", LAK_NO_SIZE, false, 1, 6, 0, {6, 0, 2}, ""},
-    {"05 82", LAK_NO_SIZE, false, 0, 6, 0, {6, 0, 2}, ""},
-    {"", LAK_NO_SIZE, false, 0, 6, 0, {6, 0, 2}, ""},
+    {PING " e0 05", LAK_OK, false, 6, 0, 6, {6, 0, 0, NONE}, ""},
+    {"e0 05", LAK_NO_SIZE, false, 1, 6, 0, {6, 0, 2, NONE}, ""},
+    {"05 82", LAK_NO_SIZE, false, 0, 6, 0, {6, 0, 2, NONE}, ""},
+    {"", LAK_NO_SIZE, false, 0, 6, 0, {6, 0, 2, NONE}, ""},
 };
 
 static const step bad_size_in_piece[] = {
-    {"ce 00 00 ea 61 81", LAK_BAD_SIZE, false, 5, 0, 0, {0, 0, 3}, ""},
-    {PING, LAK_BAD_SIZE, false, 0, 0, 0, {0, 0, 3}, ""},
+    {"ce 00 00 ea 61 81", LAK_BAD_SIZE, false, 5, 0, 0, {0, 0, 3, NONE}, ""},
+    {PING, LAK_BAD_SIZE, false, 0, 0, 0, {0, 0, 3, NONE}, ""},
 };
 
 static const step bad_size_in_carry[] = {
-    {OK_FRAME, LAK_OK, false, 4, 0, 4, {4, 0, 0}, ""},
-    {"ce 00", LAK_INCOMPLETE, false, 2, 4, 0, {4, 2, 0}, "ce 00"},
-    {"00 ea 61 81", LAK_BAD_SIZE, false, 3, 4, 0, {4, 5, 3}, "ce 00 00 ea 61"},
-    {"81", LAK_BAD_SIZE, false, 0, 4, 0, {4, 5, 3}, "ce 00 00 ea 61"},
+    {OK_FRAME, LAK_OK, false, 4, 0, 4, {4, 0, 0, NONE}, ""},
+    {"ce 00", LAK_INCOMPLETE, false, 2, 4, 0, {4, 2, 0, NONE}, "ce 00"},
+    {"00 ea 61 81", LAK_BAD_SIZE, false, 3, 4, 0, {4, 5, 3, NONE}, "ce 00 00 ea 61"},
+    {"81", LAK_BAD_SIZE, false, 0, 4, 0, {4, 5, 3, NONE}, "ce 00 00 ea 61"},
 };
 
 static const step broken_in_piece[] = {
-    {"02 81 c1 00", LAK_BROKEN, false, 3, 0, 0, {0, 0, 4}, ""},
-    {"00", LAK_BROKEN, false, 0, 0, 0, {0, 0, 4}, ""},
+    {"02 81 c1 00", LAK_BROKEN, false, 3, 0, 0, {0, 0, 4, AT(2)}, ""},
+    {"00", LAK_BROKEN, false, 0, 0, 0, {0, 0, 4, AT(2)}, ""},
 };
 
 static const step broken_in_carry[] = {
-    {"02", LAK_INCOMPLETE, false, 1, 0, 0, {0, 1, 0}, "02"},
-    {"c1", LAK_INCOMPLETE, false, 1, 0, 0, {0, 2, 0}, "02 c1"},
-    {"81 00", LAK_BROKEN, false, 1, 0, 0, {0, 3, 4}, "02 c1 81"},
-    {"00", LAK_BROKEN, false, 0, 0, 0, {0, 3, 4}, "02 c1 81"},
+    {"02", LAK_INCOMPLETE, false, 1, 0, 0, {0, 1, 0, NONE}, "02"},
+    {"c1", LAK_INCOMPLETE, false, 1, 0, 0, {0, 2, 0, NONE}, "02 c1"},
+    {"81 00", LAK_BROKEN, false, 1, 0, 0, {0, 3, 4, AT(1)}, "02 c1 81"},
+    {"00", LAK_BROKEN, false, 0, 0, 0, {0, 3, 4, AT(1)}, "02 c1 81"},
+};
+
+/* The place counts from the refused frame, whose bytes end where its size says. */
+static const step broken_after_a_ping[] = {
+    {PING " cd 00 05 81 00 40 81", LAK_OK, false, 6, 0, 6, {6, 0, 0, NONE}, ""},
+    {"cd 00 05 81 00 40 81", LAK_INCOMPLETE, false, 7, 6, 0, {6, 7, 0, NONE}, "cd 00 05 81 00 40 81"},
+    {"30 05 05", LAK_BROKEN, false, 1, 6, 0, {6, 8, 4, AT(8)}, "cd 00 05 81 00 40 81 30"},
+    {"", LAK_BROKEN, false, 0, 6, 0, {6, 8, 4, AT(8)}, "cd 00 05 81 00 40 81 30"},
 };
 
 static const step key_missing_in_carry[] = {
-    {"03 81", LAK_INCOMPLETE, false, 2, 0, 0, {0, 2, 0}, "03 81"},
-    {"00 01 03", LAK_KEY_MISSING, false, 2, 0, 0, {0, 4, 10}, "03 81 00 01"},
+    {"03 81", LAK_INCOMPLETE, false, 2, 0, 0, {0, 2, 0, NONE}, "03 81"},
+    {"00 01 03", LAK_KEY_MISSING, false, 2, 0, 0, {0, 4, 10, NONE}, "03 81 00 01"},
 };
 
 static void check_refusals(void)
@@ -203,14 +230,15 @@ static void check_refusals(void)
     FEEDS(bad_size_in_carry);
     FEEDS(broken_in_piece);
     FEEDS(broken_in_carry);
+    FEEDS(broken_after_a_ping);
     FEEDS(key_missing_in_carry);
 }
 
 /* ---- a reset drops the begun frame, the refusal and the offset */
 
-static const step reset_after_refusal[] = {{PING, LAK_OK, false, 6, 0, 6, {6, 0, 0}, "02 c1 81"}};
-static const step begun_again[] = {{"05 82", LAK_INCOMPLETE, false, 2, 6, 0, {6, 2, 0}, "05 82 81"}};
-static const step reset_after_begun[] = {{OK_FRAME, LAK_OK, false, 4, 0, 4, {4, 0, 0}, "05 82 81"}};
+static const step reset_after_refusal[] = {{PING, LAK_OK, false, 6, 0, 6, {6, 0, 0, NONE}, "02 c1 81"}};
+static const step begun_again[] = {{"05 82", LAK_INCOMPLETE, false, 2, 6, 0, {6, 2, 0, NONE}, "05 82 81"}};
+static const step reset_after_begun[] = {{OK_FRAME, LAK_OK, false, 4, 0, 4, {4, 0, 0, NONE}, "05 82 81"}};
 
 static void check_reset(void)
 {
@@ -231,6 +259,7 @@ static void refuses_carry(lak_session s, const char *what)
     hex(&piece, PING);
     a = lak_session_feed(s, piece.at, piece.n, carry, LAK_CARRY_ROOM - 1);
     expect(a.number == LAK_SHORT_CARRY && a.taken == 0 && a.offset == s.offset && a.length == 0, what, "19");
+    expect(no_number(a.place), what, "19, no place");
     expect(right_record(&a, piece.at) && same_session(a.session, s), what, "19, the session as it was");
     expect(carries("05 82"), what, "19, the carry buffer");
 }
@@ -249,35 +278,45 @@ static void check_short_carry(void)
     expect(carries(""), "lak_session_open", "the carry buffer");
     refuses_carry(lak_session_reset(), "fresh");
     refuses_carry(forged(12, 2, 0), "begun");
-    refuses_carry(forged(12, 0, LAK_BROKEN), "after a refusal");
-    refuses_carry(forged(UINT64_MAX, UINT64_MAX, UINT32_MAX), "forged");
+    refuses_carry(forged_at(12, 0, LAK_BROKEN, 5), "after a refusal");
+    refuses_carry(forged_at(12, 2, 0, 5), "a place without a refusal");
+    refuses_carry(forged_at(UINT64_MAX, UINT64_MAX, UINT32_MAX, UINT64_MAX), "forged");
 }
 
 /* ---- the offset goes round */
 
-static const step round_to_0[] = {{PING, LAK_OK, false, 6, UINT64_MAX - 5, 6, {0, 0, 0}, ""}};
+static const step round_to_0[] = {{PING, LAK_OK, false, 6, UINT64_MAX - 5, 6, {0, 0, 0, NONE}, ""}};
 static const step round_past_0[] = {
-    {"03", LAK_INCOMPLETE, false, 1, UINT64_MAX, 0, {UINT64_MAX, 1, 0}, "03"},
-    {"81 00 00", LAK_OK, true, 3, UINT64_MAX, 4, {3, 0, 0}, OK_FRAME},
-    {"00", LAK_BAD_SIZE, false, 1, 3, 0, {3, 0, 3}, OK_FRAME},
+    {"03", LAK_INCOMPLETE, false, 1, UINT64_MAX, 0, {UINT64_MAX, 1, 0, NONE}, "03"},
+    {"81 00 00", LAK_OK, true, 3, UINT64_MAX, 4, {3, 0, 0, NONE}, OK_FRAME},
+    {"00", LAK_BAD_SIZE, false, 1, 3, 0, {3, 0, 3, NONE}, OK_FRAME},
 };
 
 /* ---- sessions that no feed left */
 
 static const step held_is_settled[] = {
-    {OK_FRAME, LAK_OK, true, 0, 9, 6, {15, 0, 0}, PING},
-    {OK_FRAME, LAK_OK, false, 4, 15, 4, {19, 0, 0}, PING},
+    {OK_FRAME, LAK_OK, true, 0, 9, 6, {15, 0, 0, NONE}, PING},
+    {OK_FRAME, LAK_OK, false, 4, 15, 4, {19, 0, 0, NONE}, PING},
 };
-static const step held_starts_no_size[] = {{PING, LAK_NO_SIZE, false, 0, 9, 0, {9, 1, 2}, "e0"}};
-static const step held_has_bad_size[] = {{PING, LAK_BAD_SIZE, false, 0, 9, 0, {9, 5, 3}, "ce 00 00 ea 61"}};
-static const step held_is_broken[] = {{PING, LAK_BROKEN, false, 0, 9, 0, {9, 3, 4}, "02 81 c1"}};
-static const step held_before_bytes[] = {{"40 01 07", LAK_OK, true, 3, 0, 6, {6, 0, 0}, "05 82 00 40 01 07 ff"}};
+static const step held_starts_no_size[] = {{PING, LAK_NO_SIZE, false, 0, 9, 0, {9, 1, 2, NONE}, "e0"}};
+static const step held_has_bad_size[] = {{PING, LAK_BAD_SIZE, false, 0, 9, 0, {9, 5, 3, NONE}, "ce 00 00 ea 61"}};
+static const step held_is_broken[] = {{PING, LAK_BROKEN, false, 0, 9, 0, {9, 3, 4, AT(2)}, "02 81 c1"}};
+static const step held_before_bytes[] = {{"40 01 07", LAK_OK, true, 3, 0, 6, {6, 0, 0, NONE}, "05 82 00 40 01 07 ff"}};
 static const step refused_77[] = {
-    {PING, 77, false, 0, 9, 0, {9, 3, 77}, "05 82 00"},
-    {"", 77, false, 0, 9, 0, {9, 3, 77}, "05 82 00"},
+    {PING, 77, false, 0, 9, 0, {9, 3, 77, NONE}, "05 82 00"},
+    {"", 77, false, 0, 9, 0, {9, 3, 77, NONE}, "05 82 00"},
 };
-static const step refused_1[] = {{PING, LAK_INCOMPLETE, false, 0, 9, 0, {9, 0, 1}, ""}};
-static const step refused_19[] = {{PING, LAK_SHORT_CARRY, false, 0, 9, 0, {9, UINT64_MAX, 19}, ""}};
+static const step refused_77_at_5[] = {
+    {PING, 77, false, 0, 9, 0, {9, 3, 77, AT(5)}, "05 82 00"},
+    {"", 77, false, 0, 9, 0, {9, 3, 77, AT(5)}, "05 82 00"},
+};
+static const step refused_2_at_the_top[] = {{PING, 2, false, 0, 9, 0, {9, 0, 2, AT(UINT64_MAX)}, ""}};
+static const step absent_with_a_value[] = {{PING, 4, false, 0, 9, 0, {9, 0, 4, {false, 7}}, ""}};
+static const step place_dropped_by_1[] = {{"82", LAK_INCOMPLETE, false, 1, 9, 0, {9, 2, 0, NONE}, "05 82"}};
+static const step place_dropped_by_0[] = {{"40 01 07", LAK_OK, true, 3, 9, 6, {15, 0, 0, NONE}, PING}};
+static const step place_dropped_by_2[] = {{PING, LAK_NO_SIZE, false, 0, 9, 0, {9, 1, 2, NONE}, "e0"}};
+static const step refused_1[] = {{PING, LAK_INCOMPLETE, false, 0, 9, 0, {9, 0, 1, NONE}, ""}};
+static const step refused_19[] = {{PING, LAK_SHORT_CARRY, false, 0, 9, 0, {9, UINT64_MAX, 19, NONE}, ""}};
 
 static void check_forged(void)
 {
@@ -291,6 +330,12 @@ static void check_forged(void)
     FORGED(held_is_broken, "02 81 c1", forged(9, 7, 0));
     FORGED(held_before_bytes, "05 82 00 ff ff ff ff", forged(0, 3, 0));
     FORGED(refused_77, "05 82 00", forged(9, 3, 77));
+    FORGED(refused_77_at_5, "05 82 00", forged_at(9, 3, 77, 5));
+    FORGED(refused_2_at_the_top, "", forged_at(9, 0, LAK_NO_SIZE, UINT64_MAX));
+    FORGED(absent_with_a_value, "", absent_at(9, 0, LAK_BROKEN, 7));
+    FORGED(place_dropped_by_1, "05", forged_at(9, 1, 0, 5));
+    FORGED(place_dropped_by_0, "05 82 00", forged_at(9, 3, 0, 5));
+    FORGED(place_dropped_by_2, "e0", forged_at(9, 1, 0, 5));
     FORGED(refused_1, "", forged(9, 0, LAK_INCOMPLETE));
     FORGED(refused_19, "", forged(9, UINT64_MAX, LAK_SHORT_CARRY));
 }

@@ -39,6 +39,17 @@ static void hex(bytes *b, const char *text)
     }
 }
 
+/* Initializers of a place. */
+/* clang-format off */
+#define NONE {false, 0}
+#define AT(n) {true, n}
+/* clang-format on */
+
+static bool same_number(lak_number a, lak_number b)
+{
+    return a.present == b.present && a.value == b.value;
+}
+
 static bool no_number(lak_number n)
 {
     return !n.present && n.value == 0;

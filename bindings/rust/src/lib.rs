@@ -2,10 +2,11 @@
 //! updates: safe functions over the static library `liblaksubinat.a`, whose every call is proved to end and answer on
 //! all input.
 //!
-//! Slices go in; enums, structs and lengths come out. A refusal is an [`Error`] with its number, and leaves every byte
-//! of the lent buffer as it was. After an accepted call, bytes past the written length are unchanged. The functions keep
-//! nothing between calls and allocate nothing, so any thread may call; the deepest, [`undo`], takes 81 KB of stack. A
-//! [`Session`] is fed bytes as they come, and keeps a frame that is begun in a buffer of its own.
+//! Slices go in; enums, structs and lengths come out. A refusal is an [`Error`] with its number and, where a value broke,
+//! its place, and leaves every byte of the lent buffer as it was. After an accepted call, bytes past the written length
+//! are unchanged. The functions keep nothing between calls and allocate nothing, so any thread may call; the deepest,
+//! [`undo`], takes 81 KB of stack. A [`Session`] is fed bytes as they come, and keeps a frame that is begun in a buffer of
+//! its own.
 //!
 //! A press arrives: `^` with 1 on field 0. The update writes the new tuple, the undo call writes the list that takes it
 //! back, and an update with that list gives the old bytes again:
@@ -53,7 +54,7 @@ pub const CARRY_ROOM: usize = 60_009;
 
 /// Reads the value at the start of the bytes: what it means, and how many bytes it has.
 ///
-/// A value is held to depth 16, and nothing past its end is judged. Refused with 4.
+/// A value is held to depth 16, and nothing past its end is judged. Refused with 4, and [where](Error::place) it broke.
 ///
 /// ```
 /// use laksubinat::{read_value, Value};
@@ -61,14 +62,16 @@ pub const CARRY_ROOM: usize = 60_009;
 /// assert_eq!(read_value(&[0xcd, 0x02, 0x00]), Ok((Value::Unsigned(512), 3)));
 /// assert_eq!(read_value(&[0xa2, b'a', b'b', 0xff]), Ok((Value::String(b"ab"), 3)));
 /// assert_eq!(read_value(&[0xd5, 0xff, 1, 2]), Ok((Value::Ext(-1, &[1, 2]), 4)));
-/// assert_eq!(read_value(&[0xc1]).unwrap_err().number(), 4);
+///
+/// let error = read_value(&[0x92, 0x05, 0xa3, b'a', b'b']).unwrap_err(); // a string of three bytes, cut
+/// assert_eq!((error.number(), error.place()), (4, Some(5)));
 /// ```
 pub fn read_value(bytes: &[u8]) -> Result<(Value<'_>, usize), Error> {
     // SAFETY: pointer and length are those of a slice; the call reads within them.
     let answer = unsafe { raw::lak_value_read(bytes.as_ptr(), bytes.len()) };
     match answer.number {
         0 => Ok((Value::of(&answer, bytes), answer.length as usize)),
-        number => Err(Error::new(number, 0)),
+        number => Err(Error::new(number, 0, answer.place)),
     }
 }
 
@@ -98,7 +101,7 @@ pub fn read_frame(bytes: &[u8]) -> Result<(Frame, usize), Error> {
     let answer = unsafe { raw::lak_frame_read(bytes.as_ptr(), bytes.len()) };
     match answer.number {
         0 => Ok((answer.frame.into(), answer.length as usize)),
-        number => Err(Error::new(number, 0)),
+        number => Err(Error::new(number, 0, answer.place)),
     }
 }
 
@@ -181,6 +184,6 @@ fn changed(call: Change, tuple: &[u8], list: &[u8], index_base: u64, out: &mut [
 fn written(answer: raw::Answer) -> Result<usize, Error> {
     match answer.number {
         0 => Ok(answer.length as usize),
-        number => Err(Error::new(number, answer.operation)),
+        number => Err(Error::new(number, answer.operation, answer.place)),
     }
 }

@@ -58,6 +58,8 @@ pub struct FrameAnswer {
     pub length: u64,
     /// The record, empty where refused.
     pub frame: Frame,
+    /// Of 4 where the header or body broke, counted from the frame's first byte; else absent.
+    pub place: Number,
 }
 
 /// A session: what one feed leaves for the next. No call trusts it: any value is answered.
@@ -70,6 +72,8 @@ pub struct Session {
     pub held: u64,
     /// The number of the refused frame, or 0.
     pub refused: u32,
+    /// The place of the refused frame; not looked at where `refused` is 0.
+    pub place: Number,
 }
 
 /// The answer of [`lak_session_open`].
@@ -100,6 +104,8 @@ pub struct SessionAnswer {
     pub frame: Frame,
     /// The session for the next feed.
     pub session: Session,
+    /// As [`lak_frame_read`] gives it, repeated with the refusal.
+    pub place: Number,
 }
 
 /// The answer of the calls that write.
@@ -112,6 +118,8 @@ pub struct Answer {
     pub operation: u32,
     /// How many bytes were written, 0 where refused.
     pub length: u64,
+    /// Of 11 where the tuple broke, of 12 where the list broke, counted from its first byte; else absent.
+    pub place: Number,
 }
 
 /// The answer of [`lak_value_read`].
@@ -133,12 +141,14 @@ pub struct ValueAnswer {
     pub size: u64,
     /// An ext's type; else 0.
     pub ext_type: u8,
+    /// Of 4 where the value broke, counted from its first byte; else absent.
+    pub place: Number,
 }
 
 // The sizes that a C compiler gives them on x86-64.
-const _: () = assert!(size_of::<Frame>() == 328 && size_of::<FrameAnswer>() == 344);
-const _: () = assert!(size_of::<Answer>() == 16 && size_of::<ValueAnswer>() == 48);
-const _: () = assert!(size_of::<Session>() == 24 && size_of::<SessionOpening>() == 32 && size_of::<SessionAnswer>() == 384);
+const _: () = assert!(size_of::<Frame>() == 328 && size_of::<FrameAnswer>() == 360);
+const _: () = assert!(size_of::<Answer>() == 32 && size_of::<ValueAnswer>() == 64);
+const _: () = assert!(size_of::<Session>() == 40 && size_of::<SessionOpening>() == 48 && size_of::<SessionAnswer>() == 416);
 
 extern "C" {
     /// Reads the value at the start of the bytes.

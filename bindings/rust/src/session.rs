@@ -129,6 +129,23 @@ impl<'p> Frames<'_, 'p> {
     /// # }
     /// ```
     ///
+    /// A [place](Error::place) counts from the refused frame's first byte, in whichever pieces it came:
+    ///
+    /// ```
+    /// # fn main() -> Result<(), laksubinat::Error> {
+    /// let mut session = laksubinat::Session::new();
+    /// let mut frames = session.feed(&[0x03, 0x81, 0x00, 0x00, 0x03, 0x81]); // an ok, and a frame is begun
+    /// while let Some(_) = frames.next()? {}
+    /// let error = session.feed(&[0x00, 0xc1]).next().unwrap_err(); // c1 starts no value
+    /// assert_eq!((error.number(), error.offset(), error.place()), (4, Some(4), Some(3)));
+    /// assert_eq!(
+    ///     error.to_string(),
+    ///     "refused with 4: a value is broken, runs past its bytes or is too deep, at byte 3 of the frame at 4"
+    /// );
+    /// # Ok(())
+    /// # }
+    /// ```
+    ///
     /// Two at a time are refused by the compiler:
     ///
     /// ```compile_fail,E0499
@@ -155,7 +172,7 @@ impl<'p> Frames<'_, 'p> {
                 Ok(Some(Shown { bytes, frame: answer.frame.into(), offset: answer.offset }))
             }
             1 => Ok(None),
-            number => Err(Error::of_frame(number, answer.offset)),
+            number => Err(Error::of_frame(number, answer.offset, answer.place)),
         }
     }
 

@@ -61,6 +61,22 @@ fn a_refused_frame_is_kept_up_to_the_byte_that_settles_it() {
 }
 
 #[test]
+fn a_refusals_place_counts_from_the_frame_and_is_repeated() {
+    let spoiled = [0x05, 0x82, 0x00, 0x40, 0x01, 0xc1];
+    for cut in 0..6 {
+        let mut session = Session::new();
+        assert!(session.feed(&SELECT).next().is_ok_and(|shown| shown.is_some()));
+        assert_eq!(session.feed(&spoiled[..cut]).next(), Ok(None));
+        let error = session.feed(&spoiled[cut..]).next().unwrap_err();
+        assert_eq!((error.number(), error.offset(), error.place()), (4, Some(18), Some(5)));
+        assert_eq!(session.feed(&SELECT).next(), Err(error));
+        session.reset();
+        let error = session.feed(&[0x01, 0x90]).next().unwrap_err();
+        assert_eq!((error.number(), error.offset(), error.place()), (6, Some(0), None));
+    }
+}
+
+#[test]
 fn a_reset_drops_the_begun_frame() {
     let mut session = Session::default();
     let whole = |session: &mut Session| session.feed(&SELECT).next().map(|shown| shown.map(|select| select.offset));

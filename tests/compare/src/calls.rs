@@ -1,8 +1,7 @@
 //! The calls, as the C interface answers them; and the three that are held against each other.
 
-use crate::reference::updates::Refusal;
 use crate::reference::values::{self, Meaning, Value};
-use crate::reference::{frames, sessions, updates};
+use crate::reference::{frames, sessions, updates, Refusal};
 use laksubinat::raw::{self, Answer, FrameAnswer, SessionAnswer, SessionOpening, ValueAnswer};
 use laksubinat::{Error, Frame};
 
@@ -29,15 +28,17 @@ pub struct Bindings;
 impl Calls for Reference {
     fn value_read(&self, bytes: &[u8]) -> ValueAnswer {
         match values::read(bytes, 16) {
-            None => ValueAnswer { number: 4, ..ValueAnswer::default() },
-            Some(value) => value_answer(&value),
+            Err(place) => ValueAnswer { number: 4, place: placed(Some(place)), ..ValueAnswer::default() },
+            Ok(value) => value_answer(&value),
         }
     }
 
     fn frame_read(&self, bytes: &[u8]) -> FrameAnswer {
         match frames::read(bytes) {
-            Ok((record, length)) => FrameAnswer { number: 0, length: length as u64, frame: frame_of(&record) },
-            Err(number) => FrameAnswer { number, ..FrameAnswer::default() },
+            Ok((record, length)) => {
+                FrameAnswer { length: length as u64, frame: frame_of(&record), ..FrameAnswer::default() }
+            }
+            Err(Refusal { number, place, .. }) => FrameAnswer { number, place: placed(place), ..FrameAnswer::default() },
         }
     }
 
@@ -62,8 +63,9 @@ impl Calls for Reference {
     }
 
     fn session_feed(&self, session: raw::Session, piece: &[u8], carry: &mut [u8]) -> SessionAnswer {
-        let raw::Session { offset, held, refused } = session;
-        let fed = sessions::feed(sessions::Session { offset, held, refused }, piece, carry);
+        let raw::Session { offset, held, refused, place } = session;
+        let place = (place.present, place.value);
+        let fed = sessions::feed(sessions::Session { offset, held, refused, place }, piece, carry);
         let (frame, length) = fed.frame.map_or_else(Default::default, |(record, length)| (frame_of(&record), length));
         SessionAnswer {
             number: fed.number,
@@ -73,23 +75,33 @@ impl Calls for Reference {
             length: length as u64,
             frame,
             session: left(fed.session),
+            place: handed(fed.place),
         }
     }
 }
 
 fn left(session: sessions::Session) -> raw::Session {
-    raw::Session { offset: session.offset, held: session.held, refused: session.refused }
+    let sessions::Session { offset, held, refused, place } = session;
+    raw::Session { offset, held, refused, place: handed(place) }
+}
+
+fn handed((present, value): sessions::Place) -> raw::Number {
+    raw::Number { present, value }
+}
+
+fn placed(place: Option<usize>) -> raw::Number {
+    place.map(|place| place as u64).into()
 }
 
 /// Writes the bytes into the lent buffer; 18 where it is too short.
 fn deliver(result: Result<Vec<u8>, Refusal>, out: &mut [u8]) -> Answer {
-    let refused = |refusal: Refusal| Answer { number: refusal.number, operation: refusal.operation, length: 0 };
+    let refused = |Refusal { number, operation, place }| Answer { number, operation, length: 0, place: placed(place) };
     match result {
         Err(refusal) => refused(refusal),
         Ok(bytes) if bytes.len() > out.len() => refused(18.into()),
         Ok(bytes) => {
             out[..bytes.len()].copy_from_slice(&bytes);
-            Answer { number: 0, operation: 0, length: bytes.len() as u64 }
+            Answer { length: bytes.len() as u64, ..Answer::default() }
         }
     }
 }
@@ -208,14 +220,14 @@ impl Calls for Bindings {
     fn value_read(&self, bytes: &[u8]) -> ValueAnswer {
         match laksubinat::read_value(bytes) {
             Ok((value, length)) => ValueAnswer { length: length as u64, ..bound_value(value, bytes) },
-            Err(error) => ValueAnswer { number: error.number(), ..ValueAnswer::default() },
+            Err(error) => ValueAnswer { number: error.number(), place: placed(error.place()), ..ValueAnswer::default() },
         }
     }
 
     fn frame_read(&self, bytes: &[u8]) -> FrameAnswer {
         match laksubinat::read_frame(bytes) {
-            Ok((frame, length)) => FrameAnswer { number: 0, length: length as u64, frame: frame.into() },
-            Err(error) => FrameAnswer { number: error.number(), ..FrameAnswer::default() },
+            Ok((frame, length)) => FrameAnswer { length: length as u64, frame: frame.into(), ..FrameAnswer::default() },
+            Err(error) => FrameAnswer { number: error.number(), place: placed(error.place()), ..FrameAnswer::default() },
         }
     }
 
@@ -248,7 +260,10 @@ impl Calls for Bindings {
 fn bound(result: Result<usize, Error>) -> Answer {
     match result {
         Ok(length) => Answer { length: length as u64, ..Answer::default() },
-        Err(error) => Answer { number: error.number(), operation: error.operation().unwrap_or(0) as u32, length: 0 },
+        Err(error) => {
+            let operation = error.operation().unwrap_or(0) as u32;
+            Answer { number: error.number(), operation, length: 0, place: placed(error.place()) }
+        }
     }
 }
 

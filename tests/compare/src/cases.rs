@@ -140,6 +140,16 @@ impl Outcome {
         }
     }
 
+    pub fn place(&self) -> raw::Number {
+        match &self.reply {
+            Reply::Value(answer) => answer.place,
+            Reply::Read(answer) => answer.place,
+            Reply::Written(answer) => answer.place,
+            Reply::Opened(_) => raw::Number::default(),
+            Reply::Fed(answer) => answer.place,
+        }
+    }
+
     pub fn length(&self) -> usize {
         match &self.reply {
             Reply::Value(answer) => answer.length as usize,
@@ -203,8 +213,8 @@ impl fmt::Display for Outcome {
     fn fmt(&self, f: &mut fmt::Formatter<'_>) -> fmt::Result {
         match &self.reply {
             Reply::Value(answer) => return write!(f, "{answer:?}"),
-            Reply::Read(answer) => {
-                return write!(f, "number {}, length {}, {}", answer.number, answer.length, shown(answer.frame))
+            Reply::Read(FrameAnswer { number, length, frame, place }) => {
+                return write!(f, "number {number}, length {length}, {}, place {place:?}", shown(*frame))
             }
             Reply::Opened(answer) => return write!(f, "{answer:?}"),
             Reply::Fed(answer) => return write!(f, "{}\ncarry buffer {}", fed(answer), carried(&self.buffer)),
@@ -234,9 +244,10 @@ fn shown(mut frame: raw::Frame) -> String {
 
 /// A feed's answer in words.
 pub fn fed(answer: &SessionAnswer) -> String {
-    let SessionAnswer { number, in_carry, taken, offset, length, frame, session } = answer;
+    let SessionAnswer { number, in_carry, taken, offset, length, frame, session, place } = answer;
     let from = if *in_carry { "carry buffer" } else { "piece" };
-    format!("number {number}, {taken} taken, {length} bytes at {offset} in the {from}, {}; left {session:?}", shown(*frame))
+    let frame = shown(*frame);
+    format!("number {number}, {taken} taken, {length} bytes at {offset} in the {from}, {frame}, place {place:?}; left {session:?}")
 }
 
 /// A carry buffer with its guards: what stands before the last byte that is not the pattern's.

@@ -22,6 +22,10 @@ const NUMBERS: [&[usize]; 7] = [
     &[0, 1, 2, 3, 4, 5, 6, 7, 8, 9, 10, 19],
 ];
 
+/// The numbers beside which each call gives a place; those that it gives without one too.
+const PLACED: [(&[usize], &[usize]); 7] =
+    [(&[4], &[]), (&[4], &[]), (&[], &[4]), (&[11, 12], &[11, 12]), (&[11, 12], &[11, 12]), (&[], &[]), (&[4], &[])];
+
 /// What a library did otherwise than it should.
 pub struct Difference(pub String);
 
@@ -29,6 +33,8 @@ pub struct Difference(pub String);
 pub struct Comparison<'a> {
     pub libraries: Vec<(&'a str, &'a dyn Calls)>,
     pub counts: Counts,
+    /// Those of them that had a place.
+    pub placed: Counts,
     pub sequences: sequence::Counts,
     pub streams: stream::Counts,
 }
@@ -42,7 +48,8 @@ impl Comparison<'static> {
 
 impl<'a> Comparison<'a> {
     pub fn of(libraries: Vec<(&'a str, &'a dyn Calls)>) -> Self {
-        Comparison { libraries, counts: Counts::default(), sequences: Default::default(), streams: Default::default() }
+        let (counts, placed) = Default::default();
+        Comparison { libraries, counts, placed, sequences: Default::default(), streams: Default::default() }
     }
 
     /// One round: a few cases of one kind, chosen by seed and round alone.
@@ -72,14 +79,16 @@ impl<'a> Comparison<'a> {
                 return Err(Difference::between(case, name, *library));
             }
         }
-        self.count(case.call(), expected.number());
+        self.count(case.call(), expected.number(), expected.place());
         Ok(expected)
     }
 
     /// A forged session may repeat any number; those that a call can give are counted.
-    pub fn count(&mut self, call: usize, number: u32) {
-        if let Some(count) = self.counts[call].get_mut(number as usize) {
+    pub fn count(&mut self, call: usize, number: u32, place: raw::Number) {
+        let number = number as usize;
+        if let (Some(count), Some(placed)) = (self.counts[call].get_mut(number), self.placed[call].get_mut(number)) {
             *count += 1;
+            *placed += u64::from(place.present);
         }
     }
 
@@ -110,12 +119,20 @@ impl<'a> Comparison<'a> {
         }
     }
 
-    /// The calls and numbers that can be given and were not.
+    /// The calls and numbers that can be given and were not; also with a place, and without one.
     pub fn missing(&self) -> Vec<String> {
-        let all = NUMBERS.iter().enumerate().flat_map(|(call, numbers)| numbers.iter().map(move |number| (call, *number)));
-        all.filter(|(call, number)| self.counts[*call][*number] == 0)
-            .map(|(call, number)| format!("{} never gave {number}", CALLS[call]))
-            .collect()
+        let mut missing = Vec::new();
+        for (call, (given, (placed, bare))) in NUMBERS.iter().zip(PLACED).enumerate() {
+            let (all, with) = (self.counts[call], self.placed[call]);
+            let mut never = |numbers: &[usize], words: &str, count: &dyn Fn(usize) -> u64| {
+                let none = numbers.iter().filter(|number| count(**number) == 0);
+                missing.extend(none.map(|number| format!("{} never gave {number}{words}", CALLS[call])));
+            };
+            never(given, "", &|number| all[number]);
+            never(placed, " with a place", &|number| with[number]);
+            never(bare, " without a place", &|number| all[number] - with[number]);
+        }
+        missing
     }
 }
 
@@ -170,6 +187,12 @@ impl fmt::Display for Comparison<'_> {
                     true => write!(f, "{:>13}", self.counts[call][number])?,
                     false => write!(f, "{:>13}", "")?,
                 }
+            }
+        }
+        for (call, (placed, _)) in PLACED.iter().enumerate() {
+            for number in placed.iter() {
+                let (with, all) = (self.placed[call][*number], self.counts[call][*number]);
+                write!(f, "\n{}: {with} of {all} answers {number} had a place", CALLS[call])?;
             }
         }
         write!(f, "\n{}\n{}", self.sequences, self.streams)

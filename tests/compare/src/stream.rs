@@ -40,11 +40,11 @@ struct Shown {
     frame: raw::Frame,
 }
 
-/// What was seen of a line: its frames, and the refusal with its offset.
+/// What was seen of a line: its frames, and the refusal with its offset and place.
 #[derive(Clone, Debug, Default, PartialEq)]
 pub struct Seen {
     frames: Vec<Shown>,
-    refusal: Option<(u32, u64)>,
+    refusal: Option<(u32, u64, Option<u64>)>,
 }
 
 /// What is seen of the bytes uncut, counted from an offset: `frame_read` at the front, again and again.
@@ -60,7 +60,7 @@ pub fn uncut(mut bytes: &[u8], mut offset: u64) -> Seen {
                 bytes = rest;
             }
             1 => return seen,
-            number => return Seen { refusal: Some((number, offset)), ..seen },
+            number => return Seen { refusal: Some((number, offset, read.place.into())), ..seen },
         }
     }
 }
@@ -102,7 +102,7 @@ impl End {
                 return Err(Difference(format!("session_feed\n{given}\n{name}: {theirs}\nreference: {ours}")));
             }
         }
-        c.count(6, expected.number);
+        c.count(6, expected.number, expected.place);
         c.streams.feeds += 1;
         self.session = expected.session;
         Ok(expected)
@@ -125,7 +125,7 @@ impl End {
                 }
                 1 => {}
                 number => {
-                    seen.refusal = Some((number, answer.offset));
+                    seen.refusal = Some((number, answer.offset, answer.place.into()));
                     break;
                 }
             }
@@ -154,7 +154,8 @@ pub fn by_crate(session: &mut laksubinat::Session, line: &[u8], lengths: &[usize
                 }
                 Ok(None) => break,
                 Err(error) => {
-                    let refusal = error.offset().map(|offset| (error.number(), offset));
+                    let place = error.place().map(|place| place as u64);
+                    let refusal = error.offset().map(|offset| (error.number(), offset, place));
                     return Seen { refusal, ..seen };
                 }
             }

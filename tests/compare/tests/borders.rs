@@ -4,10 +4,18 @@ use compare::calls::{Bindings, Calls, Interface, Reference};
 use compare::cases::{unhex, Case, Change};
 use laksubinat::raw::{self, Frame, FrameAnswer, Number, Place};
 
+const NO_PLACE: Option<u64> = None;
+
 const ALL: [&dyn Calls; 3] = [&Reference, &Interface, &Bindings];
 
 fn gives(case: &Case, number: u32, what: &str) {
     assert_eq!(ALL.map(|calls| case.run(calls).number()), [number; 3], "{what}");
+}
+
+/// The number, and where a value broke.
+fn breaks(case: &Case, number: u32, place: Option<u64>, what: &str) {
+    gives(case, number, what);
+    assert_eq!(ALL.map(|calls| case.run(calls).place()), [place.into(); 3], "{what}, the place");
 }
 
 /// Arrays inside each other, exactly so deep.
@@ -36,6 +44,82 @@ fn values() {
     gives(&Case::Value { bytes: deep(17) }, 4, "depth 17");
     gives(&Case::Value { bytes: [vec![0x91; 16], vec![0x00]].concat() }, 0, "a number 16 arrays down");
     gives(&Case::Value { bytes: [vec![0x81, 0x00], deep(16)].concat() }, 4, "a map around 16");
+}
+
+#[test]
+fn values_broken() {
+    let value = |bytes: Vec<u8>, place, what: &str| breaks(&Case::Value { bytes }, 4, Some(place), what);
+    value(vec![], 0, "no bytes");
+    for (bytes, place) in [
+        ("c1", 0),
+        ("92 c1 c1", 1),
+        ("92 90 c1", 2),
+        ("92 c0", 2),
+        ("81 c1", 1),
+        ("81 a1 c1", 3),
+        ("a2 c1", 2),
+        ("d9", 1),
+        ("d9 05 c1", 3),
+        ("cf 00000000000000", 8),
+        ("c7 00", 2),
+        ("dd ffffffff", 5),
+        ("df ffffffff 00 00 c1", 7),
+    ] {
+        value(unhex(bytes), place, bytes);
+    }
+    value(deep(17), 16, "depth 17");
+    value(deep(18), 16, "depth 18: the first that goes too deep");
+    value([vec![0x91; 16], vec![0xdc]].concat(), 16, "too deep, and its count is missing");
+    value([vec![0x91; 16], vec![0xc1]].concat(), 16, "c1 at depth 16");
+    value([vec![0x92, 0xc1], deep(16)].concat(), 1, "c1 before what is too deep");
+    value([vec![0x92], deep(16), vec![0xc1]].concat(), 16, "c1 after what is too deep");
+    value([vec![0x93], deep(16)].concat(), 16, "the end after what is too deep");
+    breaks(&Case::Value { bytes: unhex("90 c1") }, 0, NO_PLACE, "c1 after the value");
+    breaks(&Case::Value { bytes: unhex("a1 c1") }, 0, NO_PLACE, "c1 in a string");
+}
+
+#[test]
+fn frames_broken() {
+    // Sizes of each width, and bytes after the frame, which would make the last value whole.
+    let sizes = [vec![], unhex("cc"), unhex("cd00"), unhex("ce000000"), unhex("cf00000000000000")];
+    for (contents, number, place) in [
+        (unhex("c1"), 4, Some(0)),
+        (unhex("81 c1 40"), 4, Some(1)),
+        (unhex("82 0040 01 c1"), 4, Some(4)),
+        (unhex("82 0040"), 4, Some(3)),
+        (unhex("81 00 cd80"), 4, Some(4)),
+        (unhex("81 0040 c1"), 4, Some(3)),
+        (unhex("81 0040 82 30c0 31c1"), 4, Some(7)),
+        (unhex("81 0040 81 30a361"), 4, Some(7)),
+        (unhex("c0 91"), 4, Some(2)),
+        (unhex("c1 c1"), 4, Some(0)),
+        ([unhex("82 0040 7e"), deep(16)].concat(), 4, Some(19)),
+        ([unhex("81 0040 81 7e"), deep(16)].concat(), 4, Some(20)),
+        (unhex("81 0040 80 c1"), 5, NO_PLACE),
+        (unhex("90"), 6, NO_PLACE),
+        (unhex("82 0040 0040"), 7, NO_PLACE),
+        (unhex("81 0041"), 8, NO_PLACE),
+        (unhex("82 0040 01c0"), 9, NO_PLACE),
+        (unhex("81 0001"), 10, NO_PLACE),
+        (unhex("81 0040"), 0, NO_PLACE),
+    ] {
+        for size in &sizes {
+            let size = [&size[..], &[contents.len() as u8]].concat();
+            let place = place.map(|place: u64| size.len() as u64 + place);
+            for after in [vec![], vec![0x40; 20]] {
+                let bytes = [size.clone(), contents.clone(), after].concat();
+                breaks(&Case::Read { bytes: bytes.clone() }, number, place, &format!("{bytes:02x?}"));
+            }
+        }
+    }
+    for (bytes, number) in [("", 1), ("03 c1", 1), ("e0 c1", 2), ("00 c1", 3), ("cd ea61 c1", 3)] {
+        breaks(&Case::Read { bytes: unhex(bytes) }, number, NO_PLACE, bytes);
+    }
+    let nils = |last| [unhex("cf 000000000000ea60 810040 8130dd0000ea56"), vec![0xc0; 59_989], vec![last]].concat();
+    breaks(&Case::Read { bytes: nils(0xc1) }, 4, Some(60_008), "c1 for the last byte of the longest frame");
+    breaks(&Case::Read { bytes: nils(0xa1) }, 4, Some(60_009), "the end of the longest frame");
+    let data = Frame { code: 0x40, data: Place { present: true, start: 0, length: 1 }, ..Frame::default() };
+    breaks(&Case::Write { frame: data, bytes: vec![0xc1], room: 100 }, 4, NO_PLACE, "the writer gives no place");
 }
 
 #[test]
@@ -221,6 +305,110 @@ fn tuples_and_lists() {
     update(&one, &none, 1, 0, "index base 1");
     update(&one, &none, 2, 12, "index base 2");
     update(&none[..0], &none, 2, 11, "a broken tuple comes first");
+}
+
+/// Both calls give the number, and where a value broke.
+fn change(tuple: &[u8], list: &[u8], base: u64, number: u32, place: Option<u64>, what: &str) {
+    let change = Change { tuple: tuple.to_vec(), list: list.to_vec(), base, room: 32_768 };
+    breaks(&Case::Update(change.clone()), number, place, what);
+    breaks(&Case::Undo(change), number, place, what);
+}
+
+#[test]
+fn tuples_broken() {
+    let tuple = |tuple: &[u8], place, what: &str| {
+        change(tuple, &[0x90], 0, 11, place, what);
+        change(tuple, &[0x91, 0xc1], 7, 11, place, &format!("{what}, and a broken list"));
+    };
+    for (bytes, place) in [
+        ("", Some(0)),
+        ("c1", Some(0)),
+        ("92 01 c1", Some(2)),
+        ("92 01", Some(2)),
+        ("92 01 91", Some(3)),
+        ("81 00 c1", Some(2)),
+        ("a2 61", Some(2)),
+        ("dc 00", Some(2)),
+        ("dd ffffffff 05", Some(6)),
+        ("c0", None),
+        ("81 00 01", None),
+        ("a1 c1", None),
+        ("90 c1", None),
+        ("91 01 00", None),
+    ] {
+        tuple(&unhex(bytes), place, bytes);
+    }
+    tuple(&deep(14), Some(13), "a field 13 deep");
+    tuple(&deep(15), Some(13), "a field 14 deep");
+    tuple(&[&[0x92][..], &deep(12), &deep(13)].concat(), Some(25), "a field 12 deep, then one 13 deep");
+    tuple(&[&[0x81, 0x00][..], &deep(12)].concat(), None, "a map 13 deep");
+    tuple(&[&[0x81, 0x00][..], &deep(13)].concat(), Some(14), "a map 14 deep");
+    let long = bin(16_384);
+    tuple(&[&[0x91][..], &long].concat(), None, "too long");
+    tuple(&[&[0x92][..], &long, &[0xc1]].concat(), Some(16_385), "too long, c1 last");
+    tuple(&[&[0x92, 0xc1][..], &long].concat(), Some(1), "too long, c1 first");
+    tuple(&[&[0x92][..], &long].concat(), Some(16_385), "too long, and a field is missing");
+    tuple(&[&[0x91][..], &long[..16_000]].concat(), Some(16_001), "not too long: the field is cut");
+    tuple(&[&[0x90][..], &long].concat(), None, "bytes left over, too long with them");
+    let fields = |last: &[u8]| [&unhex("dc0041")[..], &[0x07; 64], last].concat();
+    tuple(&fields(&[0x07]), None, "65 fields");
+    tuple(&fields(&[0xc1]), Some(67), "65 fields, c1 last");
+    tuple(&fields(&deep(13)), Some(79), "65 fields, the last 13 deep");
+    tuple(&fields(&[]), Some(67), "65 fields, the last missing");
+    tuple(&fields(&[0x07, 0xc1]), None, "65 fields, and c1 left over");
+}
+
+#[test]
+fn lists_broken() {
+    let one = vec![0x91, 0x01];
+    let list = |list: &[u8], place, what: &str| {
+        change(&one, list, 0, 12, place, what);
+        change(&one, list, 7, 12, place, &format!("{what}, from 7"));
+        change(&[0xc0], list, 0, 11, NO_PLACE, &format!("{what}, and a tuple outside the rules"));
+    };
+    for (bytes, place) in [
+        ("", Some(0)),
+        ("c1", Some(0)),
+        ("91", Some(1)),
+        ("91 93 a1 3d 00 c1", Some(5)),
+        ("91 93 a1 3d 00", Some(5)),
+        ("91 93 a1 3d c1 01", Some(4)),
+        ("91 93 a1", Some(3)),
+        ("91 93 c1 00 01", Some(2)),
+        ("91 c1", Some(1)),
+        ("92 93 a1 2a 00 01 c1", Some(6)),
+        ("92 93 a1 3d 00 c1 93 a1 2a 00 01", Some(5)),
+        ("92 93 a1 2a 00 01", Some(6)),
+        ("91 94 a1 2b 00 01 c1", Some(6)),
+        ("81 00 c1", Some(2)),
+        ("c0", None),
+        ("91 c0", None),
+        ("91 93 a1 2a 00 01", None),
+        ("91 93 a1 2b 00 a1 c1", None),
+        ("91 93 a1 3d 00 01 c1", None),
+        ("90 c1", None),
+    ] {
+        list(&unhex(bytes), place, bytes);
+    }
+    let with = |mark, argument: &[u8]| array(&[operation(mark, 0, argument)]);
+    for mark in *b"=!+*" {
+        list(&with(mark, &deep(13)), Some(19), "an argument 13 deep");
+        list(&with(mark, &deep(14)), Some(19), "an argument 14 deep");
+    }
+    list(&with(b'+', &deep(12)), None, "an argument 12 deep for a sum");
+    list(&deep(14), None, "arrays 14 deep");
+    list(&deep(15), Some(14), "arrays 15 deep");
+    change(&one, &with(b'=', &deep(12)), 7, 12, NO_PLACE, "index base 7");
+    let long = operation(b'=', 0, &bin(32_768));
+    list(&array(std::slice::from_ref(&long)), None, "too long");
+    list(&array(&[long.clone(), operation(b'=', 0, &[0xc1])]), Some(3 + 32_772 + 4), "too long, c1 last");
+    list(&array(&[operation(b'=', 0, &[0xc1]), long.clone()]), Some(7), "too long, c1 first");
+    list(&array(&[long])[..32_769], Some(32_769), "too long, and cut");
+    let many = |last: &[u8]| array(&[vec![operation(b'=', 0, &[0x01]); 64], vec![last.to_vec()]].concat());
+    list(&many(&operation(b'=', 0, &[0x01])), None, "65 operations");
+    list(&many(&operation(b'=', 0, &[0xc1])), Some(3 + 64 * 5 + 4), "65 operations, c1 last");
+    list(&many(&[]), Some(3 + 64 * 5), "65 operations, the last missing");
+    change(&one, &[0x91, 0x93, 0xa1, b'+', 0x05, 0x01], 0, 13, NO_PLACE, "13 has no place");
 }
 
 #[test]

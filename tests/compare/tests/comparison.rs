@@ -80,6 +80,26 @@ fn impostors_are_found_out() {
 }
 
 #[test]
+fn a_place_too_many_or_too_few_is_seen() {
+    let none = |answer: Answer, _: &mut [u8]| Answer { place: raw::Number::default(), ..answer };
+    assert!(is_found_out(Impostor { on_write: none, ..HONEST }));
+    let kept = |answer: Answer, _: &mut [u8]| Answer { place: raw::Number { present: false, ..answer.place }, ..answer };
+    assert!(is_found_out(Impostor { on_write: kept, ..HONEST }));
+    let more = |answer: Answer, _: &mut [u8]| match answer.number {
+        4 | 18 => Answer { place: Some(0).into(), ..answer },
+        _ => answer,
+    };
+    assert!(is_found_out(Impostor { on_write: more, ..HONEST }));
+    let session = |answer: SessionAnswer, _: &[u8], _: &mut [u8]| SessionAnswer { place: raw::Number::default(), ..answer };
+    assert!(is_found_out(Impostor { on_feed: session, ..HONEST }));
+    let left = |mut answer: SessionAnswer, _: &[u8], _: &mut [u8]| {
+        answer.session.place = raw::Number::default();
+        answer
+    };
+    assert!(is_found_out(Impostor { on_feed: left, ..HONEST }));
+}
+
+#[test]
 fn a_byte_past_the_length_or_under_a_refusal_is_seen() {
     let past = |answer: Answer, out: &mut [u8]| {
         if let Some(byte) = out.get_mut(answer.length as usize) {

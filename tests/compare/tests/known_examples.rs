@@ -44,7 +44,7 @@ fn changes(tuple: &str, list: &str, updated: &str, undo: &str) {
 }
 
 fn refuses(tuple: &str, list: &str, number: u32, operation: u32) {
-    let refused = Answer { number, operation, length: 0 };
+    let refused = Answer { number, operation, ..Answer::default() };
     assert_eq!(change(tuple, list).map(|(answer, _)| answer), [refused; 2], "{tuple} with {list}");
 }
 
@@ -68,7 +68,7 @@ fn the_select() {
         key: place(28, 4),
         ..Frame::default()
     };
-    assert_eq!(read(SELECT), FrameAnswer { number: 0, length: 32, frame });
+    assert_eq!(read(SELECT), FrameAnswer { length: 32, frame, ..FrameAnswer::default() });
     assert_eq!(read(&SELECT[..SELECT.len() - 2]).number, 1);
 }
 
@@ -76,13 +76,13 @@ fn the_select() {
 fn answers_of_the_second_paper() {
     let insert = "ce00000020 83 00ce00000000 01cf0000000000000053 05ce00000068 81 30dd000000019106";
     let frame = Frame { sync: number(0x53), schema_version: number(0x68), data: place(30, 7), ..Frame::default() };
-    assert_eq!(read(insert), FrameAnswer { number: 0, length: 37, frame });
+    assert_eq!(read(insert), FrameAnswer { length: 37, frame, ..FrameAnswer::default() });
 
     let words = "53706163652027 5f737061636527 20616c726561647920657869737473"; // Space '_space' already exists
     let error = format!("ce0000003b 83 00ce0000800a 01cf0000000000000026 05ce00000078 81 31db0000001d{words}");
     let frame =
         Frame { code: 0x800a, sync: number(0x26), schema_version: number(0x78), error: place(30, 34), ..Frame::default() };
-    assert_eq!(read(&error), FrameAnswer { number: 0, length: 64, frame });
+    assert_eq!(read(&error), FrameAnswer { length: 64, frame, ..FrameAnswer::default() });
 
     let update = "1d 82 0004 0101 85 10cd0200 1100 1501 21 91 93a13d02a54242424242 20 9102";
     let frame = read(update);
@@ -94,7 +94,7 @@ fn answers_of_the_second_paper() {
 fn heartbeats() {
     for bytes in ["12 83 0000 0202 04cb41d7ba067b3a0321 81 5a14", "0c 81 0000 83 26810106 5a14 5331"] {
         let length = unhex(bytes).len() as u64;
-        assert_eq!(read(bytes), FrameAnswer { number: 0, length, frame: Frame::default() });
+        assert_eq!(read(bytes), FrameAnswer { length, ..FrameAnswer::default() });
     }
 }
 
@@ -174,7 +174,7 @@ fn meanings() {
         ("d4ff07", ValueAnswer { kind: 8, length: 3, start: 2, size: 1, ext_type: 0xff, ..Default::default() }),
         ("d900", ValueAnswer { kind: 6, length: 2, start: 2, ..Default::default() }),
         ("dc000105", ValueAnswer { kind: 9, length: 4, size: 4, ..Default::default() }),
-        ("c1", ValueAnswer { number: 4, ..Default::default() }),
+        ("c1", ValueAnswer { number: 4, place: number(0), ..Default::default() }),
     ];
     for (bytes, answer) in cases {
         assert_eq!(ALL.map(|calls| calls.value_read(&unhex(bytes))), [answer; 3], "{bytes}");

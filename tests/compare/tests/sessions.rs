@@ -4,7 +4,7 @@ use compare::calls::{Calls, Interface, Reference};
 use compare::cases::{unhex, Case, Feed, Outcome, Reply};
 use compare::comparison::Comparison;
 use compare::stream;
-use laksubinat::raw::{Frame, Session, SessionAnswer};
+use laksubinat::raw::{Number, Session, SessionAnswer};
 
 const BOTH: [&dyn Calls; 2] = [&Reference, &Interface];
 const RECORDED: [&[u8]; 2] =
@@ -40,7 +40,12 @@ fn published_vectors_in_pieces() {
 }
 
 fn session(offset: u64, held: u64, refused: u32) -> Session {
-    Session { offset, held, refused }
+    Session { offset, held, refused, place: Number::default() }
+}
+
+/// The same with a place: the answer that leaves or repeats it has it too.
+fn spoiled(offset: u64, held: u64, refused: u32, place: u64) -> Session {
+    Session { place: Some(place).into(), ..session(offset, held, refused) }
 }
 
 /// The answer of both to a feed of a carry buffer that begins so, and what it begins with afterwards.
@@ -54,11 +59,11 @@ fn feed(before: Session, begun: &str, piece: &str) -> (SessionAnswer, Outcome) {
     }
 }
 
-/// Not accepted: how many bytes are taken, the session that is left, and what the carry buffer then begins with.
+/// Not accepted: how many bytes are taken, the session that is left with its place, and what the carry buffer then begins with.
 fn refuses(before: Session, begun: &str, piece: &str, number: u32, taken: u64, left: Session, carry: &str) {
     let (answer, outcome) = feed(before, begun, piece);
-    let frame = Frame::default();
-    let expected = SessionAnswer { number, in_carry: false, taken, offset: before.offset, length: 0, frame, session: left };
+    let (offset, place) = (before.offset, left.place);
+    let expected = SessionAnswer { number, taken, offset, session: left, place, ..SessionAnswer::default() };
     assert_eq!(answer, expected, "{begun} | {piece}");
     assert!(outcome.carries(&unhex(carry)), "{begun} | {piece}: {outcome}");
 }
@@ -103,8 +108,12 @@ fn refused() {
     refuses(session(9, 1, 0), "e0", "05", 2, 0, session(9, 1, 2), "e0");
     refuses(session(9, 0, 0), "", "ce 0000ea61 00", 3, 5, session(9, 0, 3), "");
     refuses(session(9, 2, 0), "ce 00", "00ea61 00", 3, 3, session(9, 5, 3), "ce 0000ea61");
-    refuses(session(9, 0, 0), "", "02 81 c1 00", 4, 3, session(9, 0, 4), "");
-    refuses(session(9, 1, 0), "02", "81 c1 00", 4, 2, session(9, 3, 4), "02 81 c1");
+    refuses(session(9, 0, 0), "", "02 81 c1 00", 4, 3, spoiled(9, 0, 4, 2), "");
+    refuses(session(9, 1, 0), "02", "81 c1 00", 4, 2, spoiled(9, 3, 4, 2), "02 81 c1");
+    refuses(session(9, 0, 0), "", "01 c1 00", 4, 2, spoiled(9, 0, 4, 1), "");
+    refuses(session(9, 0, 0), "", "cd 0002 81 00 40", 4, 5, spoiled(9, 0, 4, 5), "");
+    refuses(session(9, 4, 0), "cd 0002 81", "00 40", 4, 1, spoiled(9, 5, 4, 5), "cd 0002 81 00");
+    refuses(session(9, 4, 0), "04 81 00 40", "c1 05", 4, 1, spoiled(9, 5, 4, 4), "04 81 00 40 c1");
     refuses(session(9, 1, 0), "03", "80 80 00 00", 5, 3, session(9, 4, 5), "03 80 80 00");
     refuses(session(9, 2, 0), "03 81", "00 01 00", 10, 2, session(9, 4, 10), "03 81 00 01");
 }
@@ -115,6 +124,34 @@ fn repeated() {
         refuses(session(9, 3, number), "05 82 00", "40 01 07", number, 0, session(9, 3, number), "05 82 00");
         refuses(session(9, u64::MAX, number), "", "", number, 0, session(9, u64::MAX, number), "");
     }
+}
+
+/// A place comes back as it is handed in where nothing changes, and is dropped where the frame at hand is judged.
+#[test]
+fn places_handed_in() {
+    for place in [(true, 0), (true, 7), (true, u64::MAX), (false, 7)].map(|(present, value)| Number { present, value }) {
+        let with = |session: Session| Session { place, ..session };
+        for number in [1, 4, 10, 19, 77] {
+            let before = with(session(9, 3, number));
+            refuses(before, "05 82 00", "40 01 07", number, 0, before, "05 82 00");
+        }
+        refuses(with(session(9, 0, 0)), "", "05 82", 1, 2, session(9, 2, 0), "05 82");
+        refuses(with(session(9, 1, 0)), "e0", "05", 2, 0, session(9, 1, 2), "e0");
+        refuses(with(session(9, 1, 0)), "02", "81 c1 00", 4, 2, spoiled(9, 3, 4, 2), "02 81 c1");
+        refuses(with(session(9, 1, 0)), "03", "80 80 00", 5, 3, session(9, 4, 5), "03 80 80 00");
+        shows(with(session(6, 3, 0)), "05 82 00", "40 0107 03", true, 3, 6, PING);
+
+        // 19 has no place, and the session comes back as it was.
+        for refused in [0, 4] {
+            let before = with(session(9, 2, refused));
+            let case = Case::Feed(Feed { session: before, begun: unhex("05 82"), piece: unhex("00"), room: 60_008 });
+            let expected = SessionAnswer { number: 19, offset: 9, session: before, ..SessionAnswer::default() };
+            for calls in BOTH {
+                assert_eq!(case.run(calls).reply, Reply::Fed(expected));
+            }
+        }
+    }
+    assert_eq!(BOTH.map(|calls| calls.session_reset()), [Session::default(); 2]);
 }
 
 #[test]

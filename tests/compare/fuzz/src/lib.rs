@@ -77,7 +77,9 @@ fn sequence(input: &mut Input, comparison: &mut Comparison) -> Result<(), Differ
 }
 
 fn feed(input: &mut Input) -> Feed {
-    let session = raw::Session { offset: input.number(), held: input.number(), refused: input.byte().into() };
+    let (offset, held, refused) = (input.number(), input.number(), input.byte().into());
+    let place = raw::Number { present: input.byte() & 1 == 1, value: input.number() };
+    let session = raw::Session { offset, held, refused, place };
     let room = 60_000 + usize::from(input.byte());
     let begun = input.sized_part().to_vec();
     Feed { session, begun, piece: input.0.to_vec(), room }

@@ -257,6 +257,77 @@ fn long_undone(r: &mut Random) -> Change {
     Change { tuple, list: meant::array(&operations), base: 0, room: 0 }
 }
 
+/// A value about as deep as a field may be; now and then c1 inside it or in its place.
+fn spoiled(r: &mut Random) -> Vec<u8> {
+    let depth = about(r, DEPTH);
+    let mut bytes = values::nested(r, depth);
+    match r.below(4) {
+        0 => vec![0xc1],
+        1 => {
+            bytes.truncate(r.below(bytes.len()));
+            [bytes, vec![0xc1]].concat()
+        }
+        _ => bytes,
+    }
+}
+
+/// Items of an array, one of them perhaps broken, and what else may be wrong beside it: too many, too long, no array, bytes
+/// left over; or the end is missing.
+fn beside(r: &mut Random, mut items: Fields, most: usize, filler: fn(Vec<u8>) -> Vec<u8>) -> Vec<u8> {
+    if r.one_in(4) {
+        let size = about(r, most).saturating_sub(items.concat().len() + 8);
+        let at = r.below(items.len() + 1);
+        items.insert(at, filler(values::sized(r, size)));
+    }
+    let header = match r.below(12) {
+        0 => values::map_header(r, items.len() / 2),
+        _ => values::array_header(r, items.len()),
+    };
+    let mut bytes = [header, items.concat()].concat();
+    match r.below(6) {
+        0 => bytes.truncate(r.below(bytes.len())),
+        1 => bytes.push(*r.pick(&[0x00, 0x91, 0xc1])),
+        _ => {}
+    }
+    bytes
+}
+
+/// How many items, now and then about as many as are allowed.
+fn count(r: &mut Random, most: usize) -> usize {
+    if r.one_in(4) {
+        about(r, most)
+    } else {
+        r.within(1..=5)
+    }
+}
+
+/// A broken tuple, with any list.
+fn spoiled_tuple(r: &mut Random) -> Change {
+    let count = count(r, MOST_FIELDS);
+    let mut fields: Fields = (0..count).map(|_| values::scalar(r, 4)).collect();
+    let at = r.below(count);
+    fields[at] = spoiled(r);
+    let tuple = beside(r, fields, MOST_TUPLE_BYTES, |value| value);
+    let list = if r.one_in(2) { vec![0x90] } else { vec![0x91, 0xc1] };
+    Change { tuple, list, base: base(r), room: 0 }
+}
+
+/// A broken list: a broken value in an operation or for one, and perhaps an operation outside the rules before or after it.
+fn spoiled_list(r: &mut Random) -> Change {
+    let count = count(r, MOST_OPERATIONS);
+    let mut operations: Fields = (0..count).map(|_| three(b'=', 0, &values::scalar(r, 4))).collect();
+    if r.one_in(3) {
+        let at = r.below(count);
+        let argument = values::scalar(r, 4);
+        operations[at] = three(*r.pick(b"*#&"), 0, &argument);
+    }
+    let at = r.below(count);
+    let bad = spoiled(r);
+    operations[at] = if r.one_in(6) { bad } else { three(*r.pick(b"=!+*"), 0, &bad) };
+    let list = beside(r, operations, MOST_LIST_BYTES, |value| three(b'=', 0, &value));
+    Change { tuple: vec![0x91, 0x01], list, base: if r.one_in(4) { 7 } else { 0 }, room: 0 }
+}
+
 /// The inputs of an update or undo call; the room is still to be chosen.
 pub fn change(r: &mut Random) -> Change {
     let mut change = match r.below(100) {
@@ -264,6 +335,8 @@ pub fn change(r: &mut Random) -> Change {
         1 | 2 => many_undone(r),
         3 | 4 => long_undone(r),
         5..=7 => filled(r),
+        8..=11 => return spoiled_tuple(r),
+        12..=15 => return spoiled_list(r),
         _ => {
             let (tuple, base) = (tuple(r), base(r));
             Change { list: list(r, &tuple, base), tuple, base, room: 0 }

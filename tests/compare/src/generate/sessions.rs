@@ -5,7 +5,7 @@ use crate::cases::{Feed, MOST_ROOM};
 use crate::random::Random;
 use crate::reference::frames::read;
 use crate::reference::sessions::LEAST_CARRY;
-use laksubinat::raw::Session;
+use laksubinat::raw::{Number, Session};
 
 /// Frames one after the other as on a line: mostly whole ones, now and then one that is refused or damaged; the end cut.
 pub fn line(r: &mut Random) -> Vec<u8> {
@@ -78,5 +78,14 @@ pub fn feed(r: &mut Random) -> Feed {
     };
     let piece = begun.split_off(cut);
     let refused = if r.one_in(8) { *r.pick(&[1, 2, 3, 4, 10, 18, 19, 77, u32::MAX]) } else { 0 };
-    Feed { session: Session { offset: offset(r), held: held(r, cut), refused }, begun, piece, room: room(r) }
+    let session = Session { offset: offset(r), held: held(r, cut), refused, place: place(r) };
+    Feed { session, begun, piece, room: room(r) }
+}
+
+/// A session's place: mostly none, now and then any, also one that is absent and has a value.
+fn place(r: &mut Random) -> Number {
+    match r.below(4) {
+        0 => Number { present: r.one_in(2), value: *r.pick(&[0, 7, 60_009, u64::MAX]) },
+        _ => Number::default(),
+    }
 }

@@ -1,6 +1,7 @@
 //! Frames: reading one into a record, and writing a record.
 
 use super::values::{self, Meaning, Value};
+use super::Refusal;
 use std::collections::BTreeMap;
 
 /// A frame's record: its code, the other numbers and the values' places (start, length), by key.
@@ -74,11 +75,11 @@ fn suits(value: &Value, holds: Holds) -> bool {
     }
 }
 
-/// The first frame's record and length, or the refusal's number.
-pub fn read(lent: &[u8]) -> Result<(Record, usize), u32> {
+/// The first frame's record and length, or the refusal; only 4 has a place.
+pub fn read(lent: &[u8]) -> Result<(Record, usize), Refusal> {
     let (size, start) = size(lent)?;
-    let contents = lent.get(start..start + size).ok_or(1u32)?;
-    let (header, body) = halves(contents)?;
+    let frame = lent.get(..start + size).ok_or(1u32)?;
+    let (header, body) = halves(frame, start)?;
     let header = entries(&header).ok_or(6u32)?;
     let body = match &body {
         Some(body) => entries(body).ok_or(6u32)?,
@@ -91,10 +92,10 @@ pub fn read(lent: &[u8]) -> Result<(Record, usize), u32> {
         known.iter().any(|(key, holds)| map.get(key).is_some_and(|value| !suits(value, *holds)))
     };
     if wrong(&header, &HEADER) || wrong(&body, &BODY) {
-        return Err(9);
+        return Err(9.into());
     }
     if required.iter().any(|key| !body.contains_key(key)) {
-        return Err(10);
+        return Err(10.into());
     }
     let mut record = Record { code, ..Record::default() };
     record.keep(&header, &HEADER, lent);
@@ -118,16 +119,18 @@ fn size(lent: &[u8]) -> Result<(usize, usize), u32> {
     }
 }
 
-/// Header and body, if there is one: 4, then 5.
-fn halves(contents: &[u8]) -> Result<(Value<'_>, Option<Value<'_>>), u32> {
-    let header = values::read(contents, 16).ok_or(4u32)?;
-    let after = &contents[header.bytes.len()..];
-    if after.is_empty() {
+/// Header and body, if there is one, of a frame whose contents start there: 4, then 5.
+fn halves(frame: &[u8], start: usize) -> Result<(Value<'_>, Option<Value<'_>>), Refusal> {
+    // A place counts from the frame's first byte.
+    let broken = |from: usize, place: usize| Refusal { place: Some(from + place), ..4.into() };
+    let header = values::read(&frame[start..], 16).map_err(|place| broken(start, place))?;
+    let after = start + header.bytes.len();
+    if after == frame.len() {
         return Ok((header, None));
     }
-    let body = values::read(after, 16).ok_or(4u32)?;
-    if body.bytes.len() < after.len() {
-        return Err(5);
+    let body = values::read(&frame[after..], 16).map_err(|place| broken(after, place))?;
+    if after + body.bytes.len() < frame.len() {
+        return Err(5.into());
     }
     Ok((header, Some(body)))
 }

@@ -1,19 +1,7 @@
 //! Updating a tuple, and the undo list of an update.
 
 use super::values::{self, Value};
-
-/// A refusal's number, and the operation's index for 13 to 16.
-#[derive(Clone, Copy, Debug, PartialEq, Eq)]
-pub struct Refusal {
-    pub number: u32,
-    pub operation: u32,
-}
-
-impl From<u32> for Refusal {
-    fn from(number: u32) -> Refusal {
-        Refusal { number, operation: 0 }
-    }
-}
+use super::Refusal;
 
 /// A tuple's fields, each with its own bytes.
 pub type Fields = Vec<Vec<u8>>;
@@ -23,6 +11,10 @@ pub const MOST_TUPLE_BYTES: usize = 16_384;
 pub const MOST_OPERATIONS: usize = 64;
 pub const MOST_LIST_BYTES: usize = 32_768;
 pub const DEPTH: usize = 12;
+
+/// For a place, a tuple and a list are each one value, so deep at most.
+const TUPLE_DEPTH: usize = 13;
+const LIST_DEPTH: usize = 14;
 
 /// One operation with the index base taken off its numbers.
 pub struct Operation<'a> {
@@ -157,12 +149,14 @@ fn changed(field: &[u8], action: &Action) -> Result<Vec<u8>, u32> {
 
 /// The fields after the list, and the undo list's operations: 11, 12, then for each operation 13 to 16.
 fn run(tuple: &[u8], list: &[u8], base: u64) -> Result<(Fields, Vec<Vec<u8>>), Refusal> {
-    let mut fields = fields(tuple).ok_or(11u32)?;
-    let operations = operations(list, base).ok_or(12u32)?;
+    let tuple_place = || values::read(tuple, TUPLE_DEPTH).err();
+    let list_place = || values::read(list, LIST_DEPTH).err();
+    let mut fields = fields(tuple).ok_or_else(|| Refusal { place: tuple_place(), ..11.into() })?;
+    let operations = operations(list, base).ok_or_else(|| Refusal { place: list_place(), ..12.into() })?;
     let mut undoing = Vec::new();
     for (index, operation) in operations.iter().enumerate() {
-        let back = perform(&mut fields, operation).map_err(|number| Refusal { number, operation: index as u32 })?;
-        undoing.push(back);
+        let back = perform(&mut fields, operation);
+        undoing.push(back.map_err(|number| Refusal { operation: index as u32, ..number.into() })?);
     }
     Ok((fields, undoing.into_iter().rev().flatten().collect()))
 }

@@ -1,4 +1,4 @@
-//! MessagePack values: reading one held to a depth, and the shortest forms.
+//! MessagePack values: reading one held to a depth, where it broke, and the shortest forms.
 
 /// One value: exactly its bytes, and what they mean.
 pub struct Value<'a> {
@@ -55,67 +55,98 @@ impl<'a> Value<'a> {
     }
 }
 
-/// The value at the start of the bytes; none where it is broken, runs past them, or is deeper than `depth`.
-pub fn read(bytes: &[u8], depth: usize) -> Option<Value<'_>> {
-    let mut rest = Rest(bytes);
-    let meaning = meaning(&mut rest, depth)?;
-    Some(Value { bytes: &bytes[..bytes.len() - rest.0.len()], meaning })
+/// Why bytes are no value: more are due, or one of them is wrong whatever follows.
+#[derive(PartialEq)]
+enum Fault {
+    Missing,
+    Spoiled,
+}
+
+/// The value at the start of the bytes. Where it is broken, runs past them, or is deeper than `depth`: the place of the first
+/// byte that spoils it.
+pub fn read(bytes: &[u8], depth: usize) -> Result<Value<'_>, usize> {
+    front(bytes, depth).map_err(|_| spoiled_at(bytes, depth))
 }
 
 /// The value that is all of the bytes.
 pub fn whole(bytes: &[u8], depth: usize) -> Option<Value<'_>> {
-    read(bytes, depth).filter(|value| value.bytes.len() == bytes.len())
+    front(bytes, depth).ok().filter(|value| value.bytes.len() == bytes.len())
+}
+
+/// The last of the fewest bytes that nothing after them makes a value; where there are none such, the end, where more were due.
+fn spoiled_at(bytes: &[u8], depth: usize) -> usize {
+    let spoiled = |n: usize| front(&bytes[..n], depth).is_err_and(|fault| fault == Fault::Spoiled);
+    if !spoiled(bytes.len()) {
+        return bytes.len();
+    }
+    // Bytes that follow mend nothing: the least number is found by halving.
+    let (mut fine, mut bad) = (0, bytes.len());
+    while fine + 1 < bad {
+        let half = (fine + bad) / 2;
+        match spoiled(half) {
+            true => bad = half,
+            false => fine = half,
+        }
+    }
+    bad - 1
+}
+
+fn front(bytes: &[u8], depth: usize) -> Result<Value<'_>, Fault> {
+    let mut rest = Rest(bytes);
+    let meaning = meaning(&mut rest, depth)?;
+    Ok(Value { bytes: &bytes[..bytes.len() - rest.0.len()], meaning })
 }
 
 /// The bytes that have not been read yet.
 struct Rest<'a>(&'a [u8]);
 
 impl<'a> Rest<'a> {
-    fn take(&mut self, length: u64) -> Option<&'a [u8]> {
-        let (taken, rest) = self.0.split_at_checked(usize::try_from(length).ok()?)?;
+    fn take(&mut self, length: u64) -> Result<&'a [u8], Fault> {
+        let cut = usize::try_from(length).ok().and_then(|length| self.0.split_at_checked(length));
+        let (taken, rest) = cut.ok_or(Fault::Missing)?;
         self.0 = rest;
-        Some(taken)
+        Ok(taken)
     }
 
-    fn unsigned(&mut self, width: u64) -> Option<u64> {
-        Some(self.take(width)?.iter().fold(0, |number, byte| number << 8 | u64::from(*byte)))
+    fn unsigned(&mut self, width: u64) -> Result<u64, Fault> {
+        Ok(self.take(width)?.iter().fold(0, |number, byte| number << 8 | u64::from(*byte)))
     }
 
-    fn signed(&mut self, width: u64) -> Option<i128> {
+    fn signed(&mut self, width: u64) -> Result<i128, Fault> {
         let number = i128::from(self.unsigned(width)?);
         let half = 1 << (8 * width - 1);
-        Some(if number < half { number } else { number - 2 * half })
+        Ok(if number < half { number } else { number - 2 * half })
     }
 
-    fn value(&mut self, depth: usize) -> Option<Value<'a>> {
-        let value = read(self.0, depth)?;
+    fn value(&mut self, depth: usize) -> Result<Value<'a>, Fault> {
+        let value = front(self.0, depth)?;
         self.take(value.bytes.len() as u64)?;
-        Some(value)
+        Ok(value)
     }
 
-    fn ext(&mut self, length: u64) -> Option<Meaning<'a>> {
+    fn ext(&mut self, length: u64) -> Result<Meaning<'a>, Fault> {
         let kind = self.unsigned(1)? as u8;
-        Some(Meaning::Ext(kind, self.take(length)?))
+        Ok(Meaning::Ext(kind, self.take(length)?))
     }
 
-    /// A container has depth 1 and that of the deepest value inside, so what is inside may go one less deep.
-    fn array(&mut self, count: u64, depth: usize) -> Option<Meaning<'a>> {
-        let inside = depth.checked_sub(1)?;
-        (0..count).map(|_| self.value(inside)).collect::<Option<_>>().map(Meaning::Array)
+    fn array(&mut self, count: u64, inside: usize) -> Result<Meaning<'a>, Fault> {
+        (0..count).map(|_| self.value(inside)).collect::<Result<_, _>>().map(Meaning::Array)
     }
 
-    fn map(&mut self, count: u64, depth: usize) -> Option<Meaning<'a>> {
-        let inside = depth.checked_sub(1)?;
-        (0..count).map(|_| Some((self.value(inside)?, self.value(inside)?))).collect::<Option<_>>().map(Meaning::Map)
+    fn map(&mut self, count: u64, inside: usize) -> Result<Meaning<'a>, Fault> {
+        (0..count).map(|_| Ok((self.value(inside)?, self.value(inside)?))).collect::<Result<_, _>>().map(Meaning::Map)
     }
 }
 
-fn meaning<'a>(rest: &mut Rest<'a>, depth: usize) -> Option<Meaning<'a>> {
+fn meaning<'a>(rest: &mut Rest<'a>, depth: usize) -> Result<Meaning<'a>, Fault> {
     let first = rest.unsigned(1)?;
-    Some(match first {
+    // A container has depth 1 and that of the deepest value inside, so what is inside may go one less deep. One that goes too
+    // deep is wrong by its first byte.
+    let inside = depth.checked_sub(1).ok_or(Fault::Spoiled);
+    Ok(match first {
         0x00..=0x7f => Meaning::Integer(first.into()),
-        0x80..=0x8f => rest.map(first - 0x80, depth)?,
-        0x90..=0x9f => rest.array(first - 0x90, depth)?,
+        0x80..=0x8f => rest.map(first - 0x80, inside?)?,
+        0x90..=0x9f => rest.array(first - 0x90, inside?)?,
         0xa0..=0xbf => Meaning::String(rest.take(first - 0xa0)?),
         0xc0 => Meaning::Nil,
         0xc2 => Meaning::Boolean(false),
@@ -138,15 +169,15 @@ fn meaning<'a>(rest: &mut Rest<'a>, depth: usize) -> Option<Meaning<'a>> {
             Meaning::String(rest.take(length)?)
         }
         0xdc..=0xdd => {
-            let count = rest.unsigned(2 << (first - 0xdc))?;
-            rest.array(count, depth)?
+            let (inside, count) = (inside?, rest.unsigned(2 << (first - 0xdc))?);
+            rest.array(count, inside)?
         }
         0xde..=0xdf => {
-            let count = rest.unsigned(2 << (first - 0xde))?;
-            rest.map(count, depth)?
+            let (inside, count) = (inside?, rest.unsigned(2 << (first - 0xde))?);
+            rest.map(count, inside)?
         }
         0xe0..=0xff => Meaning::Integer(i128::from(first) - 0x100),
-        _ => return None, // c1
+        _ => return Err(Fault::Spoiled), // c1
     })
 }
 
