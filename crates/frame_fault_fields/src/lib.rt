@@ -57,7 +57,7 @@ fn hex_digit(d: u8) -> u8
 fn write_byte(out: &mut [u8], at: usize, b: u8, marked: bool) -> usize
     ensures { λ r. ⌜ Lays (now (out .entry)) at (between marked b) (now (out .exit)) r ⌝ }
 {
-    let high = hex_digit(b / 16);
+    let high = hex_digit(b >> 4);
     let low = hex_digit(b % 16);
     if marked {
         let cell = [b'>', high, low, b'<'];
@@ -113,11 +113,11 @@ fn dump_start(place: OptionalNumber) -> usize
     ensures { λ r. ⌜ r ≡ dumpStart place ⌝ }
 {
     if place.present {
-        let line = place.value / 16;
+        let line = place.value >> 4;
         if line < 2 {
             return 0;
         }
-        return (16 * (line - 2)) as usize;
+        return ((line - 2) << 4) as usize;
     }
     0
 }

@@ -43,7 +43,7 @@ pub fn form_of(b: u8) -> Form
 {
     match b {
         0x00..=0x7f => Form::Scalar(Kind::Unsigned, 0, 0),
-        0x80..=0x8f => Form::Map(0, 2 * (b - 0x80) as usize),
+        0x80..=0x8f => Form::Map(0, ((b - 0x80) << 1) as usize),
         0x90..=0x9f => Form::Array(0, (b - 0x90) as usize),
         0xa0..=0xbf => Form::Scalar(Kind::String, 0, (b - 0xa0) as usize),
         0xc0 => Form::Scalar(Kind::Nil, 0, 0),
@@ -57,8 +57,9 @@ pub fn form_of(b: u8) -> Form
         0xd0..=0xd3 => Form::Scalar(Kind::Signed, 0, power_of_two(b - 0xd0)),
         0xd4..=0xd8 => Form::Scalar(Kind::Ext, 0, 1 + power_of_two(b - 0xd4)),
         0xd9..=0xdb => Form::Scalar(Kind::String, power_of_two(b - 0xd9), 0),
-        0xdc..=0xdd => Form::Array(2 * power_of_two(b - 0xdc), 0),
-        0xde..=0xdf => Form::Map(2 * power_of_two(b - 0xde), 0),
+        // Two and four length bytes, so from 2 ^ 1 on.
+        0xdc..=0xdd => Form::Array(power_of_two(b - 0xdb), 0),
+        0xde..=0xdf => Form::Map(power_of_two(b - 0xdd), 0),
         0xe0..=0xff => Form::Scalar(Kind::Signed, 0, 0),
     }
 }

@@ -8,7 +8,7 @@ use native.Mathlib.Nat.{add-zero, mul-assoc}
 use native.Mathlib.Omega.{arith}
 use native.Mathlib.Numerals.{add-one}
 use lib.ListN.{length, length-append, length-drop, getD, take, drop}
-use lib.Seq.{take-suc, getD-drop}
+use lib.Seq.{take-suc, getD-drop, drop-append-seam, take-append-seam}
 use borrow.Author.Tests.{leb-true, le-leb}
 use lib.Dec.{leb}
 use lib.Arith.{digits-lt}
@@ -66,3 +66,9 @@ number-is w at n s e = go (leb w 8) (leb (at + w) (length s)) refl e
     go true true q e = (leb-true (at + w) (length s) q, cc)
     go true false q e = impossible cc
     go false b q e = impossible cc
+
+-- bytes that stand anywhere, in every width: their sum by powers of 256
+pub number-there : (s bs t : Bytes) → length bs ≤ 8 → numberAt (length bs) (length s) (s ++ (bs ++ t)) ≡ Is (number bs)
+number-there s bs t h =
+    let l : length s + length bs ≤ length (s ++ (bs ++ t)) = simp length-append (omega arith) in
+    simp (le-leb (length bs) 8 h, le-leb (length s + length bs) (length (s ++ (bs ++ t))) l, drop-append-seam, take-append-seam)

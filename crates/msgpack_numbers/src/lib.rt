@@ -1,7 +1,11 @@
-// Numbers of several bytes, the most significant first.
+// Numbers of several bytes, the most significant first, put together by shifting.
 ghost use mathlib.Core.Path.{_≡_};
-ghost use Prim.Native.Nat.{_+_, _*_, _^_, _<_};
-ghost use Rattle.msgpack_numbers.specs.Number.{numberAt, Below};
+ghost use mathlib.Core.List.{_∷_, _++_};
+ghost use Prim.Native.Nat.{ℕ, _+_, _*_, _^_, _<_, _≤_};
+ghost use lib.ListN.{length};
+ghost use Rattle.msgpack_first_bytes.specs.Bytes.{Bytes};
+ghost use Rattle.msgpack_numbers.specs.Number.{number, numberAt, Below};
+ghost use Rattle.msgpack_numbers.specs.declared.Number.the-variants.{Is};
 
 pub enum Number {
     Is(u64),
@@ -37,3 +41,13 @@ pub fn number_at(s: &[u8], at: usize, width: usize) -> Number
     }
     Number::Is(n)
 }
+
+// What `number_at` answers for up to 8 bytes, wherever they stand: their sum by powers of 256; written out for 1, 2, 4 and 8.
+pub fn each_width_is_its_bytes_sum()
+    ensures { λ _. ⌜ ((s bs t : Bytes) → length bs ≤ 8 → numberAt (length bs) (length s) (s ++ (bs ++ t)) ≡ Is (number bs))
+        × ((s t : Bytes) (a : ℕ) → numberAt 1 (length s) (s ++ (a ∷ t)) ≡ Is a)
+        × ((s t : Bytes) (a b : ℕ) → numberAt 2 (length s) (s ++ (a ∷ b ∷ t)) ≡ Is (a * 256 + b))
+        × ((s t : Bytes) (a b c d : ℕ) → numberAt 4 (length s) (s ++ (a ∷ b ∷ c ∷ d ∷ t)) ≡ Is (a * 256 ^ 3 + b * 256 ^ 2 + c * 256 + d))
+        × ((s t : Bytes) (a b c d e f g h : ℕ) → numberAt 8 (length s) (s ++ (a ∷ b ∷ c ∷ d ∷ e ∷ f ∷ g ∷ h ∷ t))
+        ≡ Is (a * 256 ^ 7 + b * 256 ^ 6 + c * 256 ^ 5 + d * 256 ^ 4 + e * 256 ^ 3 + f * 256 ^ 2 + g * 256 + h)) ⌝ }
+{}

@@ -92,7 +92,7 @@ fn map_start(form: Form) -> Start
         Form::Unused => Start::Elsewhere,
         Form::Scalar(_, _, _) => Start::Elsewhere,
         Form::Array(_, _) => Start::Elsewhere,
-        Form::Map(width, fixed) => Start::Here(width, fixed / 2),
+        Form::Map(width, fixed) => Start::Here(width, fixed >> 1),
     }
 }
 
@@ -152,7 +152,7 @@ fn sign_bit(width: usize) -> u64
     requires { ⌜ (1 ≤ width) × (width ≤ 8) ⌝ }
     ensures { λ r. ⌜ r ≡ 2 ^ (8 * width - 1) ⌝ }
 {
-    1 << (8 * width - 1)
+    1 << ((width << 3) - 1)
 }
 
 // The same number in two's complement.

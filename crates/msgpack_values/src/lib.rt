@@ -123,6 +123,18 @@ fn long_scalar(s: &[u8], at: usize, width: usize, more: usize) -> Token
     Token::Past(from + due)
 }
 
+// `per` times n, by a sum.
+fn times(n: usize, per: usize) -> usize
+    requires { ⌜ (n < 2 ^ 32) × (per ≤ 2) ⌝ }
+    ensures { λ r. ⌜ (r ≡ per * n) × (r < 2 ^ 34) ⌝ }
+{
+    match per {
+        0 => 0,
+        1 => n,
+        _ => n + n,
+    }
+}
+
 // A container whose first byte stands at `at`: its count in `width` bytes, `per` values for each.
 fn long_container(s: &[u8], at: usize, width: usize, per: usize, depth: usize) -> Token
     requires { ⌜ (at < length (now s)) × (Width width × (per ≤ 2)) ⌝ }
@@ -134,7 +146,7 @@ fn long_container(s: &[u8], at: usize, width: usize, per: usize, depth: usize) -
     if s.len() - at <= width {
         return Token::Fails(s.len());
     }
-    Token::Holds(per * length_at(s, at + 1, width), at + 1 + width)
+    Token::Holds(times(length_at(s, at + 1, width), per), at + 1 + width)
 }
 
 // What stands at `at`, where its first byte `b` is no short container's and tells no length. Each
@@ -167,7 +179,7 @@ fn short_count(b: u8) -> usize
     ensures { λ r. ⌜ (r ≡ shortCount (formOf b)) × (r ≤ 31) ⌝ }
 {
     if b < 0x90 {
-        return 2 * (b - 0x80) as usize;
+        return ((b - 0x80) << 1) as usize;
     }
     (b - 0x90) as usize
 }

@@ -18,7 +18,7 @@ fn put_tagged(out: &mut [u8], tag: u8, n: u64, width: usize)
     let mut high = n;
     while 0 < i {
         out[i] = (high % 256) as u8;
-        high = high / 256;
+        high = high >> 8;
         i -= 1;
     }
     out[0] = tag;

@@ -59,7 +59,7 @@ pub fn count_at(s: &[u8], at: usize) -> Natural
         return Natural::Bad;
     }
     let b = s[at];
-    if b / 16 == 9 {
+    if b >> 4 == 9 {
         return Natural::Is((b - 0x90) as u64, at + 1);
     }
     match msgpack_scalars::header_at(s, at, Opening::Array) {

@@ -89,7 +89,8 @@ pub(crate) fn decimal_at(text: &[u8], at: usize) -> usize {
         if (0xffff_ffff_ffff_ffff - digit) / 10 < n {
             return n;
         }
-        n = n * 10 + digit;
+        // Ten times n.
+        n = (n << 3) + (n << 1) + digit;
         i += 1;
     }
     n
@@ -108,7 +109,7 @@ fn piece_at(text: &[u8], at: usize) -> Piece
             next: end,
         };
     }
-    let byte = digit(text[at]) * 16 + digit(text[at + 1]);
+    let byte = (digit(text[at]) << 4) + digit(text[at + 1]);
     let after = at + 2;
     if after == end {
         return Piece {
@@ -184,7 +185,7 @@ fn adler(s: &[u8]) -> u64 {
         high = (high + low) % 65_521;
         i += 1;
     }
-    high * 65_536 + low
+    (high << 16) + low
 }
 
 // The first `n` bytes, at most 48.

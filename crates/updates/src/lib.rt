@@ -18,9 +18,14 @@ ghost use Rattle.answers.specs.Seen.{seen};
 ghost use Rattle.updates.specs.Listing.{listIn, TriesUpdate, TriesUndo};
 ghost use Rattle.updates.specs.Carrying.{HasRoom};
 
-// Where tuple and list are at most so long, the new tuple has room in twice that, and the undo list
-// in three times that, but for rare cases.
+// Where tuple and list are at most so long, the arrays below are enough, but for rare cases.
 const SHORT: usize = 2048;
+
+// The new tuple's.
+const SHORT_TUPLE: usize = SHORT + SHORT;
+
+// The undo list's.
+const SHORT_UNDO: usize = SHORT_TUPLE + SHORT;
 
 // The call's answer; or something had no room in the arrays, and nothing was written.
 enum Tried {
@@ -86,8 +91,8 @@ fn updated(tuple: &[u8], list: &[u8], index_base: u64, out: &mut [u8]) -> Answer
     if SHORT < list.len() {
         return update_long(tuple, list, index_base, out);
     }
-    let mut scratch = [0u8; 2 * SHORT];
-    let mut work = [0u8; 2 * SHORT];
+    let mut scratch = [0u8; SHORT_TUPLE];
+    let mut work = [0u8; SHORT_TUPLE];
     let Tried::Answered(answer) = update_in(tuple, list, index_base, &mut scratch, &mut work, out)
     else {
         return update_long(tuple, list, index_base, out);
@@ -176,9 +181,9 @@ fn undone(tuple: &[u8], list: &[u8], index_base: u64, out: &mut [u8]) -> Answer
     if SHORT < list.len() {
         return undo_long(tuple, list, index_base, out);
     }
-    let mut scratch = [0u8; 2 * SHORT];
-    let mut work = [0u8; 2 * SHORT];
-    let mut back = [0u8; 3 * SHORT];
+    let mut scratch = [0u8; SHORT_TUPLE];
+    let mut work = [0u8; SHORT_TUPLE];
+    let mut back = [0u8; SHORT_UNDO];
     let Tried::Answered(answer) = undo_in(
         tuple,
         list,

@@ -1,8 +1,7 @@
 -- A count and where its values begin; or too deep, or missing. Assumes nothing.
 use borrow.Author.Needs.{needs}
 use native.Mathlib.Omega.{arith}
-use native.Mathlib.Nat.{mul-le-mul-left}
-use Prim.Native.Nat.{ℕ, suc, _+_, _-_, _*_, _^_, _<_}
+use Prim.Native.Nat.{ℕ, suc, _+_, _-_}
 use mathlib.Core.Path.{_≡_, sym, ap, _∙_}
 use lib.ListN.{drop}
 use Rattle.msgpack_values.specs.Value.{shift, inside}
@@ -18,15 +17,14 @@ returns-2 c =
     Laws.sized-missing (a .s .now) (a .at + 1) (a .width) _ (omega arith) (omega arith)
     ∙ sym (ap (λ (d : ℕ). shift (a .at) (inside d (a .width) 0 (a .per) (drop (a .at + 1) (a .s .now)))) e ∙ Laws.inside-items (a .s .now) (a .at) (a .depth - 1) (a .width) 0 (a .per))
 
-count-fits : (c : tie.After-length-at) → c .before .before .before .before .args .per * c .length-at .result < 2 ^ 34
-count-fits c = omega (arith, mul-le-mul-left (c .length-at .result) (c .before .before .before .before .pre .1 .1))
-
 returns-3 : tie.Need-returns-3
 returns-3 c =
-    let a = c .before .before .before .before .args in
-    (omega arith, (count-fits c, inside-counted (a .s .now) (a .at) (a .depth) (a .width) 0 (a .per) _ _ (omega arith) (omega arith) (c .length-at .ensures .0) (omega arith)))
+    let a = c .before .before .before .before .before .args in
+    let n = c .before .length-at .ensures .0 in
+    let e = c .times .ensures .0 in
+    (omega arith, (c .times .ensures .1, inside-counted (a .s .now) (a .at) (a .depth) (a .width) 0 (a .per) _ _ (omega arith) (omega arith) n (omega (arith, e))))
 
 pub long-container-spec : {M : Type 1} → statement M
 long-container-spec =
     tie.close (tie.spec (λ c. rw (c .if1 .taken) (Laws.inside-deep _ _ _ _ _)) (λ c. search needs) returns-2 (λ c. search needs)
-    (λ c κs. search needs) (λ c. omega (arith, count-fits c)) (λ c. search needs) (λ c. search needs) returns-3)
+    (λ c κs. search needs) (λ c κs. search needs) (λ c. search needs) (λ c. search needs) returns-3)

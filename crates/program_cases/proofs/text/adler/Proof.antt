@@ -16,4 +16,4 @@ adler-spec =
     tie.close (tie.spec Inv-loop μ-loop (λ c. search needs) (λ c. search needs)
     (λ c. omega (arith, c .shared-slice-known .given (c .before .before .loop .i)))
     (λ c. omega (arith, c .shared-slice-known .given (c .before .before .loop .i))) (λ c. search needs) (λ c. search needs)
-    (λ c. search needs) (λ c. search needs) (λ c. search needs) (λ c. search needs) (λ c. search needs))
+    (λ c. search needs) (λ c. search needs) (λ c. search needs) (λ c. search needs))
