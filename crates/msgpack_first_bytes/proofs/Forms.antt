@@ -13,7 +13,7 @@ use Rattle.msgpack_first_bytes.specs.declared.Form.the-variants.{Unused,
 use Rattle.msgpack_first_bytes.proofs.Range.{both, both-left, both-right, all, all-at}
 
 -- a kind from its number
-abbrev kindAt : ℕ → Kind
+abbrev pub kindAt : ℕ → Kind
 kindAt n = getD (Nil ∷ Boolean ∷ Unsigned ∷ Signed ∷ Float32 ∷ Float64 ∷ String ∷ Bin ∷ Ext ∷ []) n Nil
 
 kind-back : (k : Kind) → kindAt (kindNo k) ≡ k

@@ -4,7 +4,7 @@ use msgpack_first_bytes::Kind;
 use msgpack_numbers::Number;
 ghost use mathlib.Core.Path.{_≡_};
 ghost use Prim.Native.Nat.{_+_, _-_, _*_, _^_, _<_, _≤_};
-ghost use lib.ListN.{length, take, drop, getD};
+ghost use lib.ListN.{length, drop};
 ghost use Rattle.msgpack_scalars.specs.Start.{scalarOf, arrayBy, mapBy, startBy, Few};
 ghost use Rattle.msgpack_scalars.specs.Integer.{due, naturalOf, signedOf, unsigned, signed, integer, shiftNatural, shiftInteger};
 ghost use Rattle.msgpack_scalars.specs.Header.{counted, header, shiftHeader};
@@ -136,8 +136,8 @@ fn natural_of(s: &[u8], at: usize, more: usize) -> u64
     n
 }
 
-// The unsigned number at `at`.
-pub fn unsigned_at(s: &[u8], at: usize) -> Natural
+// The unsigned number at `at`, by the form of its first byte.
+fn unsigned_by_form(s: &[u8], at: usize) -> Natural
     ensures { λ r. ⌜ r ≡ shiftNatural at (unsigned (drop at (now (s .entry)))) ⌝ }
 {
     match due_at(s, at, Kind::Unsigned) {
@@ -145,6 +145,19 @@ pub fn unsigned_at(s: &[u8], at: usize) -> Natural
         Due::Cut => Natural::Cut,
         Due::Other => Natural::Other,
     }
+}
+
+// The unsigned number at `at`. One from 0 to 127 is told here, so that the compiler has no call to make.
+pub fn unsigned_at(s: &[u8], at: usize) -> Natural
+    ensures { λ r. ⌜ r ≡ shiftNatural at (unsigned (drop at (now (s .entry)))) ⌝ }
+{
+    if at < s.len() {
+        let b = s[at];
+        if msgpack_first_bytes::is_positive_fixint(b) {
+            return Natural::Is(b as u64, at + 1);
+        }
+    }
+    unsigned_by_form(s, at)
 }
 
 // The sign bit of `width` bytes.

@@ -22,6 +22,10 @@ pub shift-shift : (j k : ℕ) (r : Read) → shift j (shift k r) ≡ shift (j + 
 shift-shift j k (Whole n) = ap Whole (sym (add-assoc j k n))
 shift-shift j k (Broken n) = ap Broken (sym (add-assoc j k n))
 
+pub shift-further : (k e : ℕ) (r : Read) → Whole e ≡ shift k r → k ≤ e
+shift-further k e (Whole n) q = let z : e ≡ k + n = cc in omega arith
+shift-further k e (Broken n) q = impossible cc
+
 -- ---- a number of w bytes, and what comes after it
 
 pub sized-missing : (s : Bytes) (at w : ℕ) (next : ℕ → Bytes → Read) → at ≤ length s → length s < at + w

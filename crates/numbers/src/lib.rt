@@ -31,7 +31,7 @@ pub fn field_of(number: Int, base: u64) -> Field
     }
 }
 
-// The integer at `at`. One of a single byte is told here, so that the compiler has no call to make.
+// The integer at `at`. A number from 0 to 127 is told here, so that the compiler has no call to make.
 pub fn any_integer(s: &[u8], at: usize) -> Signed
     ensures { λ r. ⌜ r ≡ signedBy (now (s .entry)) (anyInteger (drop at (now (s .entry)))) ⌝ }
 {
@@ -39,7 +39,7 @@ pub fn any_integer(s: &[u8], at: usize) -> Signed
         return Signed::Bad;
     }
     let b = s[at];
-    if b < 0x80 {
+    if msgpack_first_bytes::is_positive_fixint(b) {
         return Signed::Is(Int::FromZero(b as u64), at + 1);
     }
     match msgpack_scalars::integer_at(s, at) {

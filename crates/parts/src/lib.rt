@@ -50,17 +50,17 @@ pub fn string_at(s: &[u8], at: usize) -> Span
     Span::Is(start, start + n)
 }
 
-// The count of the array whose header stands at `at`, and the place after the header. A short header
-// is told here, so that the compiler has no call to make for it.
+// The count of the array whose header stands at `at`, and the place after the header. A short header,
+// with no length bytes, is told by its entry, so that the compiler has no call to make for it.
 pub fn count_at(s: &[u8], at: usize) -> Natural
     ensures { λ r. ⌜ r ≡ naturalBy (now (s .entry)) (count (drop at (now (s .entry)))) ⌝ }
 {
     if s.len() <= at {
         return Natural::Bad;
     }
-    let b = s[at];
-    if b >> 4 == 9 {
-        return Natural::Is((b - 0x90) as u64, at + 1);
+    let e = msgpack_first_bytes::entry(s[at]);
+    if e >> 8 == 9 {
+        return Natural::Is((e % 256) as u64, at + 1);
     }
     match msgpack_scalars::header_at(s, at, Opening::Array) {
         Header::Is(n, start) => Natural::Is(n as u64, start),

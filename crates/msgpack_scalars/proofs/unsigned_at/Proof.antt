@@ -1,28 +1,20 @@
--- The number that is due, cut, or of another kind. Assumes nothing.
-use native.Mathlib.Omega.{arith}
-use Prim.Native.Nat.{_+_, _≤_}
-use mathlib.Core.Path.{sym, _∙_}
-use lib.ListN.{length}
-use Rattle.msgpack_first_bytes.specs.FirstByte.{formOf, sameKind}
-use Rattle.msgpack_first_bytes.specs.declared.Kind.the-variants.{Unsigned}
-use Rattle.msgpack_scalars.specs.Integer.{unsigned, unsignedBy}
-use Rattle.msgpack_scalars.proofs.Laws.{little, due-there}
+-- A number of one byte by its entry, any other by its form. Assumes nothing.
 use borrow.Author.Needs.{needs}
+use borrow.Author.Tests.{eqb-true}
+use native.Mathlib.Omega.{arith}
+use mathlib.Core.Path.{sym, _∙_}
+use Rattle.msgpack_first_bytes.specs.Entry.{positiveFixint}
+use Rattle.msgpack_scalars.proofs.Short.{unsigned-small}
 use Rattle.msgpack_scalars.proofs.unsigned_at.Statement.{statement}
 use Rattle.msgpack_scalars.proofs.unsigned_at.Tie as tie
 
--- what is due is there
-there : (c : tie.After-known-told) → (let a = c .before .before .before .before .before .args in let f = c .before .more .given .0 .0 in (f ≤ 8) × (a .at + (1 + f) ≤ length (a .s .now)))
-unfolding little formOf sameKind
-there c =
+returns : tie.Need-returns
+returns c =
     let a = c .before .before .before .before .before .args in
-    let b = c .before .before .before .before .shared-slice-known .given (a .at) in
-    due-there Unsigned tt (a .s .now) (a .at) _ (omega arith) (sym (c .before .more .given .1) ∙ c .before .before .before .due-at .ensures)
+    unsigned-small (a .s .now) (a .at) (c .before .before .before .if1 .taken) (eqb-true _ positiveFixint (sym (c .before .is-positive-fixint .ensures) ∙ c .if2 .taken))
 
 pub unsigned-at-spec : {M : Type 1} → statement M
-unfolding unsigned unsignedBy
-unsigned-at-spec = tie.close (tie.spec (λ c κs. search needs) (λ c. search needs) (λ c κs. let k = there c in omega arith)
-    (λ c. let k = there (c .before) in omega arith) (λ c. let k = there (c .before) in omega arith) (λ c. search needs) (λ c. search needs)
-    (λ c. rw (← (c .before .before .before .before .due-at .ensures), c .before .before .more .given .1, c .natural-of .ensures))
-    (λ c. rw (← (c .before .before .due-at .ensures), c .enum-told .given .1))
-    (λ c. rw (← (c .before .before .due-at .ensures), c .enum-told2 .given .1)))
+unsigned-at-spec =
+    tie.close (tie.spec (λ c. search needs) (λ c κs. search needs)
+    (λ c. omega (arith, c .before .before .shared-slice-known2 .given (c .before .before .before .before .before .args .at)))
+    (λ c. search needs) returns (λ c κs. search needs) (λ c. search needs))
