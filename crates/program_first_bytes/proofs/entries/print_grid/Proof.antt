@@ -1,0 +1,16 @@
+-- Sixteen rows. Assumes nothing.
+use Prim.Native.Nat.{_-_}
+use borrow.Author.Needs.{needs}
+use Rattle.program_first_bytes.proofs.entries.print_grid.Statement.{statement}
+use Rattle.program_first_bytes.proofs.entries.print_grid.Tie as tie
+
+abbrev Inv-loop : tie.InvT-loop
+Inv-loop high₀ high = Unit {0}
+
+abbrev μ-loop : tie.MeasureT-loop
+μ-loop high₀ high = 16 - high
+
+pub print-grid-spec : {M : Type 1} → statement M
+print-grid-spec =
+    tie.close (tie.spec Inv-loop μ-loop (λ c κs. search needs) (λ c. search needs) (λ c κs. search needs) (λ c. search needs)
+    (λ c. search needs) (λ c. search needs) (λ c. search needs))
