@@ -17,7 +17,39 @@ LONG = [
 ]
 
 
+def alike():
+    """Items with the same head in a row: as many as are counted, one more after them, the last of them cut or another."""
+    for head, name in ((b"\xd9\x02", "str 8"), (b"\xc4\x02", "bin 8"), (b"\xc7\x01\x05", "ext 8")):
+        item = head + b"ab"[: 4 - len(head)]
+        for n in (1, 2, 3, 15):
+            row = bytes([0x90 + n]) + item * n
+            yield (row, "%d times %s" % (n, name))
+            yield (row + item, "%d times %s, and one more after them" % (n, name))
+            for k in (1, 2, 3):
+                yield (row[:-k], "%d times %s, cut by %d" % (n, name, k))
+            yield (row[:-4] + bytes([head[0], 1]) + item[2:], "%d times %s, the last shorter by a byte" % (n, name))
+            yield (row[:-4] + bytes([head[0], 3]) + item[2:], "%d times %s, the last longer by a byte" % (n, name))
+            yield (row[:-4] + b"\xc1" + item[1:], "%d times %s, c1 in place of the last" % (n, name))
+        yield (b"\x82" + item * 4, "a map of four %s" % name)
+        yield (b"\x92\x92" + item * 3, "%s in an array and after it" % name)
+
+
+def ones():
+    """Arrays of one in one another, and what is inside them."""
+    inside = ((b"\x07", "a number"), (b"\x90", "an empty array"), (b"\xc1", "c1"), (b"", "nothing"), (b"\xd9\x01a", "str 8"), (b"\x92\x01\x02", "two numbers"))
+    for n in (1, 3, 4, 5, 8, 11, 15, 16, 17):
+        for content, name in inside:
+            yield (b"\x91" * n + content, "%d arrays of one, %s in them" % (n, name))
+        yield (b"\x92" + (b"\x91" * n + b"\x01") * 2, "twice %d arrays of one" % n)
+
+
 def cases():
+    yield from values_alone()
+    yield from alike()
+    yield from ones()
+
+
+def values_alone():
     for b in range(256):
         yield ([b] + [0] * 20, "first byte %02x and zeros" % b)
         yield ([b], "first byte %02x alone" % b)

@@ -121,14 +121,34 @@ pub fn scalar(r: &mut Random, size: usize) -> Vec<u8> {
     }
 }
 
+/// Arrays of one in one another, and a value in them.
+fn ones(r: &mut Random, depth: usize, size: usize) -> Vec<u8> {
+    let levels = r.within(1..=depth);
+    [vec![0x91; levels], value(r, depth - levels, size)].concat()
+}
+
+/// The items from one on are made like it, so that they have the same head.
+fn make_alike(r: &mut Random, items: &mut [Vec<u8>]) {
+    let first = r.below(items.len());
+    let (like, rest) = items[first..].split_first_mut().expect("there is one");
+    rest.fill(like.clone());
+}
+
 /// A value at most so deep, of about this size; the size left for each item also ends the nesting.
 pub fn value(r: &mut Random, depth: usize, size: usize) -> Vec<u8> {
     if depth == 0 || size < 2 || !r.one_in(3) {
         return scalar(r, size);
     }
+    if r.one_in(10) {
+        return ones(r, depth, size);
+    }
     let count = if r.one_in(30) { r.within(14..=40) } else { r.below(6) };
     let is_map = r.one_in(2);
-    let items: Vec<_> = (0..count * (1 + usize::from(is_map))).map(|_| value(r, depth - 1, size / (count + 1))).collect();
+    let mut items: Vec<_> =
+        (0..count * (1 + usize::from(is_map))).map(|_| value(r, depth - 1, size / (count + 1))).collect();
+    if !items.is_empty() && r.one_in(4) {
+        make_alike(r, &mut items);
+    }
     let header = if is_map { map_header(r, count) } else { array_header(r, count) };
     [header, items.concat()].concat()
 }
