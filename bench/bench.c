@@ -89,6 +89,12 @@ static void values_table(void)
     values_row("64 strings");
     integers_sample(&sample, 16381);
     values_row("16,381 small integers");
+    numbers_sample(&sample, 3000);
+    values_row("3,000 numbers of 32 bits");
+    records_sample(&sample, 300);
+    values_row("300 records");
+    mixed_sample(&sample, 2000);
+    values_row("2,000 mixed values");
     nesting_sample(&sample, 64, 16);
     values_row("64 times 16 deep");
 }

@@ -21,6 +21,12 @@ static int make_values(const char *name)
         strings_sample(&sample, 64);
     else if (!strcmp(name, "integers"))
         integers_sample(&sample, 16381);
+    else if (!strcmp(name, "numbers"))
+        numbers_sample(&sample, 3000);
+    else if (!strcmp(name, "records"))
+        records_sample(&sample, 300);
+    else if (!strcmp(name, "mixed"))
+        mixed_sample(&sample, 2000);
     else if (!strcmp(name, "nesting"))
         nesting_sample(&sample, 64, 16);
     else

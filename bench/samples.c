@@ -114,6 +114,92 @@ void integers_sample(struct sample *s, size_t integers)
         put_byte(s, i % 4 == 3 ? 0xe0 + i % 32 : i % 128);
 }
 
+void numbers_sample(struct sample *s, size_t numbers)
+{
+    s->n = 0;
+    put_array(s, numbers);
+    for (size_t i = 0; i < numbers; i++)
+        put_tagged(s, 0xce, 0x10000000 + 977 * i, 4);
+}
+
+static void put_text(struct sample *s, const char *text)
+{
+    put_byte(s, 0xa0 + (unsigned)strlen(text));
+    put(s, text, strlen(text));
+}
+
+/* A car as a map: number, plate, wash mode, points, whether it is paid, the visits. */
+static void put_car(struct sample *s, size_t i)
+{
+    put_byte(s, 0x86);
+    put_text(s, "id");
+    put_unsigned(s, 100 * i);
+    put_text(s, "plate");
+    put_letters(s, 6 + i % 3);
+    put_text(s, "mode");
+    put_unsigned(s, i % 8);
+    put_text(s, "points");
+    put_tagged(s, 0xcb, 0x4050000000000000 + i, 8);
+    put_text(s, "paid");
+    put_byte(s, i % 3 ? 0xc3 : 0xc2);
+    put_text(s, "visits");
+    put_array(s, 2 + i % 2);
+    for (size_t k = 0; k < 2 + i % 2; k++)
+        put_unsigned(s, 300 * i + k);
+}
+
+void records_sample(struct sample *s, size_t records)
+{
+    s->n = 0;
+    put_array(s, records);
+    for (size_t i = 0; i < records; i++)
+        put_car(s, i);
+}
+
+/* A value of a fixed length: nil, a boolean, a float, a signed integer or an ext of four bytes. */
+static void put_fixed(struct sample *s, uint32_t drawn)
+{
+    static const unsigned first[8] = {0xc0, 0xc2, 0xc3, 0xca, 0xcb, 0xd1, 0xd2, 0xd6};
+    static const size_t bytes[8] = {0, 0, 0, 4, 8, 2, 4, 5};
+    size_t form = drawn % 8;
+    put_tagged(s, first[form], drawn, bytes[form]);
+}
+
+/* A string, an array of a string and a number, or a map of one number by a name. */
+static void put_short(struct sample *s, uint32_t drawn)
+{
+    size_t n = drawn / 8 % 32;
+    if (drawn % 8 == 0)
+        put_array(s, 2);
+    else if (drawn % 8 == 1)
+        put_byte(s, 0x81);
+    put_letters(s, 2 * n);
+    if (drawn % 8 < 2)
+        put_unsigned(s, n << 5);
+}
+
+/* Of four values one of each kind above, and two unsigned numbers of any width. */
+static void put_drawn(struct sample *s, uint32_t drawn)
+{
+    if (drawn % 4 == 0)
+        put_fixed(s, drawn / 4);
+    else if (drawn % 4 == 1)
+        put_short(s, drawn / 4);
+    else
+        put_unsigned(s, drawn >> drawn / 4 % 32);
+}
+
+void mixed_sample(struct sample *s, size_t values)
+{
+    uint32_t drawn = 1;
+    s->n = 0;
+    put_array(s, values);
+    for (size_t i = 0; i < values; i++) {
+        drawn = drawn * 1664525 + 1013904223;
+        put_drawn(s, drawn >> 8);
+    }
+}
+
 /* So many arrays in one another. */
 static void put_nested(struct sample *s, size_t depth)
 {

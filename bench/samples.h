@@ -17,6 +17,9 @@ void select_sample(struct sample *s);                    /* the 32 bytes of a se
 void answer_sample(struct sample *s, size_t tuples);     /* an array of tuples of about 130 bytes */
 void strings_sample(struct sample *s, size_t strings);   /* an array of strings of 253 bytes */
 void integers_sample(struct sample *s, size_t integers); /* an array of integers of one byte */
+void numbers_sample(struct sample *s, size_t numbers);   /* an array of numbers of 32 bits */
+void records_sample(struct sample *s, size_t records);   /* an array of maps of about 60 bytes, by names */
+void mixed_sample(struct sample *s, size_t values);      /* an array of values of all kinds, in no order */
 void nesting_sample(struct sample *s, size_t items,
                     size_t depth); /* an array of items, as deep as that in all */
 
