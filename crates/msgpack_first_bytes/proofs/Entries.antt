@@ -1,98 +1,50 @@
 -- What an entry says: its form, by its digits; which entries single bytes are tested for; the rows of a table. Assumes nothing.
-use mathlib.Core.Path.{_≡_, refl, sym, ap, subst, _∙_}
+use mathlib.Core.Path.{_≡_, sym, ap}
 use mathlib.Core.Bool.{Bool, true, false}
-use mathlib.Core.List.{List, [], _∷_}
-use mathlib.Core.Logic.{⊎-elim}
-use Prim.Native.Nat.{ℕ, _+_, _*_, _/_, _%_, _<_, _≤_}
+use mathlib.Core.List.{List}
+use Prim.Native.Nat.{ℕ, _+_, _*_, _/_, _<_, _≤_}
 use native.Mathlib.Omega.{arith}
-use borrow.Author.Tests.{lt-leb, le-leb, eq-eqb}
+use borrow.Author.Tests.{le-leb, lt-leb, eq-eqb, ne-eqb}
 use lib.Dec.{T, leb, leb→le, ltb, eqb}
-use lib.ListN.{getD}
 use Rattle.msgpack_first_bytes.specs.Bytes.{pick}
 use Rattle.msgpack_first_bytes.specs.FirstByte.{formOf}
 use Rattle.msgpack_first_bytes.specs.Entry.{entryBy, lengthBytes, kindDigit, fixedPayload, entryOf, Told, positiveFixint, commonLength}
 use Rattle.msgpack_first_bytes.specs.Rows.{four, rowOf}
-use Rattle.msgpack_first_bytes.specs.declared.Kind.the-variants.{Nil, Boolean, Unsigned, Signed, Float32, Float64, String, Bin, Ext}
 use Rattle.msgpack_first_bytes.specs.declared.Form.{Form}
 use Rattle.msgpack_first_bytes.specs.declared.Form.the-variants.{Unused, Scalar, Array, Map}
-use Rattle.msgpack_first_bytes.proofs.Logic.{either, by-eqb, past}
-use Rattle.msgpack_first_bytes.proofs.Range.{both, both-left, both-right, all-at, agree-tests}
-use Rattle.msgpack_first_bytes.proofs.Forms.{kindAt, agree}
+use Rattle.msgpack_first_bytes.proofs.Logic.{by-leb, by-eqb}
+use Rattle.msgpack_first_bytes.proofs.Range.{both, both-left, both-right, agree-tests}
+use Rattle.msgpack_first_bytes.proofs.Forms.{kindAt, agree, every, each-form}
 
 -- a form from its kind's digit, its length bytes and its fixed payload
 abbrev pub formBy : ℕ → ℕ → ℕ → Form
-formBy k w f =
-    getD
-    (Scalar Nil w f ∷ Scalar Boolean w f ∷ Scalar Unsigned w f ∷ Scalar Signed w f ∷ Scalar Float32 w f ∷ Scalar Float64 w f ∷ Scalar String w f ∷ Scalar Bin w f ∷ Scalar Ext w f ∷ Array w f ∷ Map w f ∷ [])
-    k
-    Unused
+formBy k w f = pick (leb k 8) (Scalar (kindAt k) w f) (pick (eqb k 9) (Array w f) (pick (eqb k 10) (Map w f) Unused))
 
 -- an entry says its form
-pub said : (b e : ℕ) → b < 256 → e ≡ entryOf b → formBy (kindDigit e) (lengthBytes e) (fixedPayload e) ≡ formOf b
-unfolding entryOf entryBy formOf
-said b e h q = rw q (agree (λ b. formBy (kindDigit (entryOf b)) (lengthBytes (entryOf b)) (fixedPayload (entryOf b))) formOf 0 256 tt h (omega arith))
+module _ (b e : ℕ) (q : e ≡ entryOf b) where
+  pub said : formBy (kindDigit e) (lengthBytes e) (fixedPayload e) ≡ formOf b
+  unfolding entryOf entryBy formOf
+  said =
+      rw q
+      (every (λ h. formBy (kindDigit (entryBy h)) (lengthBytes (entryBy h)) (fixedPayload (entryBy h)) ≡ h)
+      (λ b l. agree (λ b. formBy (kindDigit (entryOf b)) (lengthBytes (entryOf b)) (fixedPayload (entryOf b))) formOf 0 256 tt l (omega arith)) b)
+
+  pub scalar-said : kindDigit e < 9 → Scalar (kindAt (kindDigit e)) (lengthBytes e) (fixedPayload e) ≡ formOf b
+  scalar-said k = rw (le-leb (kindDigit e) 8 (omega arith)) at said
+
+  pub array-said : kindDigit e ≡ 9 → Array (lengthBytes e) (fixedPayload e) ≡ formOf b
+  array-said k = rw k at said
+
+  pub map-said : kindDigit e ≡ 10 → Map (lengthBytes e) (fixedPayload e) ≡ formOf b
+  map-said k = rw k at said
+
+  pub unused-said : 10 < kindDigit e → Unused ≡ formOf b
+  unused-said k = rw (lt-leb (kindDigit e) 8 (omega arith), ne-eqb (kindDigit e) 9 (λ z. omega arith), ne-eqb (kindDigit e) 10 (λ z. omega arith)) at said
 
 -- which first bytes have the entry of a number from 0 to 127
 pub positive-fixint : {b : ℕ} → b < 256 → ltb b 0x80 ≡ eqb (entryOf b) positiveFixint
 unfolding entryOf entryBy formOf
 positive-fixint {b} h = agree-tests (λ b. ltb b 0x80) (λ b. eqb (entryOf b) positiveFixint) 0 256 tt {b = b} h (omega arith)
-
--- a digit that is no kind's
-pub no-kind : (k w f : ℕ) → k < 16 → 11 ≤ k → Unused ≡ formBy k w f
-no-kind k w f h l = agree (λ k. Unused) (λ k. formBy k w f) 11 5 tt h l
-
--- ---- what an entry says, by its digits; a rule of the forms of all bytes is one of the forms of all numbers
-
-beyond : (b : ℕ) → 255 < b → formOf b ≡ formOf 255
-unfolding formOf
-beyond b h =
-    let out : (n : ℕ) → n ≤ 255 → leb b n ≡ false = λ n k. lt-leb b n (omega arith) in
-    simp (
-      out 0x7f (omega arith),
-      out 0x8f (omega arith),
-      out 0x9f (omega arith),
-      out 0xbf (omega arith),
-      out 0xc0 (omega arith),
-      out 0xc1 (omega arith),
-      out 0xc3 (omega arith),
-      out 0xc6 (omega arith),
-      out 0xc9 (omega arith),
-      out 0xca (omega arith),
-      out 0xcb (omega arith),
-      out 0xcf (omega arith),
-      out 0xd3 (omega arith),
-      out 0xd8 (omega arith),
-      out 0xdb (omega arith),
-      out 0xdd (omega arith),
-      out 0xdf (omega arith),
-    )
-
-every : (P : Form → Type 0) → ((b : ℕ) → b < 256 → P (formOf b)) → (b : ℕ) → P (formOf b)
-every P f b = ⊎-elim (λ h. f b (omega arith)) (λ h. subst P (sym (beyond b h)) (f 255 (omega arith))) (either b 255)
-
-module _ (b e : ℕ) (q : e ≡ entryOf b) where
-  digits : formBy (kindDigit e) (lengthBytes e) (fixedPayload e) ≡ formOf b
-  unfolding entryOf
-  digits = rw q (every (λ h. formBy (kindDigit (entryBy h)) (lengthBytes (entryBy h)) (fixedPayload (entryBy h)) ≡ h) (λ b l. said b (entryOf b) l refl) b)
-
-  pub array-said : kindDigit e ≡ 9 → Array (lengthBytes e) (fixedPayload e) ≡ formOf b
-  array-said k = rw k at digits
-
-  pub map-said : kindDigit e ≡ 10 → Map (lengthBytes e) (fixedPayload e) ≡ formOf b
-  map-said k = rw k at digits
-
-  pub unused-said : 10 < kindDigit e → Unused ≡ formOf b
-  unused-said k = no-kind (kindDigit e) (lengthBytes e) (fixedPayload e) (omega arith) k ∙ digits
-
-  pub scalar-said : kindDigit e < 9 → Scalar (kindAt (kindDigit e)) (lengthBytes e) (fixedPayload e) ≡ formOf b
-  unfolding entryOf entryBy formOf
-  scalar-said k =
-      rw q (every (λ h. kindDigit (entryBy h) < 9 → Scalar (kindAt (kindDigit (entryBy h))) (lengthBytes (entryBy h)) (fixedPayload (entryBy h)) ≡ h) one b (rw q at k))
-    where
-      one : (b : ℕ) → b < 256 → kindDigit (entryOf b) < 9 → Scalar (kindAt (kindDigit (entryOf b))) (lengthBytes (entryOf b)) (fixedPayload (entryOf b)) ≡ formOf b
-      one b l k =
-          rw (lt-leb 9 (kindDigit (entryOf b)) k) at
-          (agree (λ b. pick (leb 9 (kindDigit (entryOf b))) (formOf b) (Scalar (kindAt (kindDigit (entryOf b))) (lengthBytes (entryOf b)) (fixedPayload (entryOf b)))) formOf 0 256 tt l (omega arith))
 
 -- no length bytes and the kind of an array: a short array, of as many values as the last two digits say
 pub short-array-said : (b e : ℕ) → e ≡ entryOf b → e / 256 ≡ 9 → formOf b ≡ Array 0 (fixedPayload e)
@@ -107,7 +59,7 @@ wide e = pick (leb 1 (lengthBytes e)) (both (leb (lengthBytes e) 4) (both (pick 
 
 wide-at : (b : ℕ) → T (wide (entryOf b))
 unfolding entryOf entryBy formOf
-wide-at = every (λ h. T (wide (entryBy h))) (λ b l. all-at (λ b. wide (entryOf b)) 0 256 tt l (omega arith))
+wide-at = each-form (λ h. wide (entryBy h)) tt
 
 pub record Wide (e : ℕ) : Type 0 where
   pub most : lengthBytes e ≤ 4
@@ -125,7 +77,7 @@ wide-said b e q h = go (rw (le-leb 1 (lengthBytes e) h) at (rw (sym q) at (wide-
         record {
           most = leb→le (lengthBytes e) 4 (both-left (leb (lengthBytes e) 4) _ t);
           not-three = λ z. rw (eq-eqb (lengthBytes e) 3 z) at (both-left (pick (eqb (lengthBytes e) 3) false true) _ u);
-          fixed = past (λ n. fixedPayload e ≤ n → fixedPayload e ≤ 1) 9 (kindDigit e) (λ l. omega arith) (λ l. l) f;
+          fixed = by-leb (λ n. fixedPayload e ≤ n → fixedPayload e ≤ 1) 9 (kindDigit e) (λ _ l. omega arith) (λ _ l. l) f;
           none = λ k. let g = rw (le-leb 9 (kindDigit e) k) at f in omega arith;
         }
 

@@ -27,10 +27,6 @@ module _ {A : Type 0} (P : A → Type 0) {x y : A} where
   pub by-eqb : (a b : ℕ) → (a ≡ b → P x) → ((a ≡ b → ⊥) → P y) → P (pick (eqb a b) x y)
   by-eqb a b f g = by (eqb a b) (λ e. f (eqb-true a b e)) (λ e. g (eqb-false a b e))
 
--- in both cases
-pub past : {A : Type 0} (P : A → Type 0) (a b : ℕ) {x y : A} → P x → P y → P (pick (leb a b) x y)
-past P a b p q = by-leb P a b (λ _. p) (λ _. q)
-
 pub either : (a b : ℕ) → (a ≤ b) ⊎ (b < a)
 either a b = go (leb a b) refl
   where

@@ -3,20 +3,20 @@ use mathlib.Core.Path.{_≡_, refl, ap, _∙_}
 use mathlib.Core.List.{[], _∷_}
 use mathlib.Core.Bool.{Bool, true}
 use Prim.Native.Nat.{ℕ, zero, suc, _+_, _-_, _*_, _^_, _<_, _≤_}
-use native.Mathlib.Nat.{add-zero}
 use native.Mathlib.Numerals.{add-one}
 use native.Mathlib.Omega.{arith}
 use borrow.Author.Tests.{le-leb, lt-leb, lt-ltb, le-ltb}
 use lib.Dec.{T, leb, leb→le}
 use lib.Pow.{pow-add}
 use lib.ListN.{length, take, drop, getD, length-drop, drop-of-length-le}
-use lib.Seq.{drop-cons, drop-drop, getD-drop}
+use lib.Seq.{drop-cons, drop-drop}
 use Rattle.msgpack_first_bytes.specs.Bytes.{Bytes}
 use Rattle.msgpack_first_bytes.specs.FirstByte.{formOf, sameKind}
 use Rattle.msgpack_first_bytes.specs.declared.Kind.{Kind}
 use Rattle.msgpack_first_bytes.specs.declared.Form.{Form}
 use Rattle.msgpack_first_bytes.proofs.Logic.{impossible, by-leb}
-use Rattle.msgpack_first_bytes.proofs.Range.{both, both-left, both-right, all, all-at}
+use Rattle.msgpack_first_bytes.proofs.Range.{both, both-left, both-right, all}
+use Rattle.msgpack_first_bytes.proofs.Forms.{each-form}
 use Rattle.msgpack_numbers.specs.Number.{number, numberAt}
 use Rattle.msgpack_numbers.specs.declared.Number.the-variants.{Is as IsNumber, Missing}
 use Rattle.msgpack_numbers.proofs.Big.{number-missing, number-is}
@@ -46,10 +46,10 @@ unfolding little
 is-few most (Here w f) t = (leb→le w 4 (both-left (leb w 4) (leb f most) t), leb→le f most (both-right (leb w 4) (leb f most) t))
 is-few most Elsewhere t = tt
 
-few : (by : Form → Start) (most : ℕ) → T (all (λ b. little most (by (formOf b))) 0 256) → {b : ℕ} → b < 256 → Few most (by (formOf b))
-few by most t {b} h = is-few most (by (formOf b)) (all-at (λ b. little most (by (formOf b))) 0 256 t h (omega arith))
+pub few : (by : Form → Start) (most : ℕ) → T (all (λ b. little most (by (formOf b))) 0 256) → (b : ℕ) → Few most (by (formOf b))
+few by most t b = is-few most (by (formOf b)) (each-form (λ h. little most (by h)) t b)
 
-pub start-few : (o : Opening) {b : ℕ} → b < 256 → Few 31 (startBy o (formOf b))
+pub start-few : (o : Opening) (b : ℕ) → Few 31 (startBy o (formOf b))
 unfolding little formOf sameKind
 start-few Strings = few stringBy 31 tt
 start-few Arrays = few arrayBy 31 tt
@@ -80,19 +80,19 @@ due-more s at w f k =
 
 -- of a kind that asks for little, what is due is there
 module _ (k : Kind) (t : T (all (λ b. little 8 (scalarOf k (formOf b))) 0 256)) where
-  due-few : (f : ℕ) (s : Bytes) → getD s 0 0 < 256 → More f ≡ due k s → (f ≤ 8) × (1 + f ≤ length s)
+  due-few : (f : ℕ) (s : Bytes) → More f ≡ due k s → (f ≤ 8) × (1 + f ≤ length s)
   unfolding due dueIn
-  due-few f [] h e = impossible cc
-  due-few f (b ∷ s) h e = go (scalarOf k (formOf b)) (few (scalarOf k) 8 t h) e
+  due-few f [] e = impossible cc
+  due-few f (b ∷ s) e = go (scalarOf k (formOf b)) (few (scalarOf k) 8 t b) e
     where
       go : (x : Start) → Few 8 x → More f ≡ dueIn x s → (f ≤ 8) × (1 + f ≤ suc (length s))
       go (Here w g) m e =
           by-leb (λ (d : Due). More f ≡ d → (f ≤ 8) × (1 + f ≤ suc (length s))) g (length s) (λ l q. let i : f ≡ g = cc in (omega arith, omega arith)) (λ l q. impossible cc) e
       go Elsewhere m e = impossible cc
 
-  pub due-there : (s : Bytes) (at f : ℕ) → getD s at 0 < 256 → More f ≡ due k (drop at s) → (f ≤ 8) × (at + (1 + f) ≤ length s)
-  due-there s at f h e =
-      let r = due-few f (drop at s) (rw (getD-drop, add-zero) h) e in
+  pub due-there : (s : Bytes) (at f : ℕ) → More f ≡ due k (drop at s) → (f ≤ 8) × (at + (1 + f) ≤ length s)
+  due-there s at f e =
+      let r = due-few f (drop at s) e in
       let l = simp length-drop at (r .1) in
       (r .0, omega arith)
 

@@ -1,7 +1,7 @@
 -- An unsigned number is known by its own bytes, nine at most, whatever follows them. Assumes nothing.
 use mathlib.Core.Path.{_≡_, refl, ap, _∙_}
 use mathlib.Core.List.{[], _∷_, _++_}
-use Prim.Native.Nat.{ℕ, zero, suc, _+_, _-_, _^_, _<_, _≤_}
+use Prim.Native.Nat.{ℕ, zero, suc, _+_, _-_, _<_, _≤_}
 use native.Mathlib.Omega.{arith}
 use borrow.Author.Tests.{le-leb, lt-leb}
 use lib.ListN.{length, take, length-take, length-append}
@@ -9,7 +9,6 @@ use lib.Seq.{length-take-le, take-at}
 use Rattle.msgpack_first_bytes.specs.Bytes.{Bytes}
 use Rattle.msgpack_first_bytes.specs.FirstByte.{formOf, sameKind}
 use Rattle.msgpack_first_bytes.specs.declared.Kind.the-variants.{Unsigned}
-use Rattle.msgpack_first_bytes.specs.declared.Form.{Form}
 use Rattle.msgpack_first_bytes.proofs.Logic.{by-leb}
 use Rattle.msgpack_numbers.specs.Number.{number}
 use Rattle.msgpack_scalars.specs.Start.{scalarOf, Few}
@@ -19,6 +18,7 @@ use Rattle.msgpack_scalars.specs.declared.Start.the-variants.{Here, Else
 use Rattle.msgpack_scalars.specs.declared.Due.{Due}
 use Rattle.msgpack_scalars.specs.declared.Natural.{Natural}
 use Rattle.msgpack_scalars.specs.declared.Natural.the-variants.{Is, Cut, Other}
+use Rattle.msgpack_scalars.proofs.Laws.{little, few}
 
 -- what `read` finds at the front of s is told by k bytes, whatever follows them, and by no fewer: of those it says `early`
 pub record Known {A : Type 0} (read : Bytes → A) (early : A) (most : ℕ) (s : Bytes) (k : ℕ) (a : A) : Type 0 where
@@ -40,26 +40,9 @@ Own s Cut = length s ≤ 8
 Own s Other = Known unsigned Cut 9 s 1 Other
 
 -- a first byte asks for eight bytes at most
-abbrev Asks : Form → Type 0
-Asks x = Few 8 (scalarOf Unsigned x)
-
-power : (j : ℕ) → j ≤ 3 → 2 ^ j ≤ 8
-power zero h = omega arith
-power (suc zero) h = omega arith
-power (suc (suc zero)) h = omega arith
-power (suc (suc (suc zero))) h = omega arith
-power (suc (suc (suc (suc j)))) h = absurd (omega arith)
-
-asks : (b : ℕ) → Asks (formOf b)
-unfolding formOf sameKind
-asks b =
-    by-leb Asks b 0x7f (λ h. (omega arith, omega arith)) (λ _. by-leb Asks b 0x8f (λ h. tt) (λ _. by-leb Asks b 0x9f (λ h. tt) (λ _.
-    by-leb Asks b 0xbf (λ h. tt) (λ _. by-leb Asks b 0xc0 (λ h. tt) (λ _. by-leb Asks b 0xc1 (λ h. tt) (λ _.
-    by-leb Asks b 0xc3 (λ h. tt) (λ _. by-leb Asks b 0xc6 (λ h. tt) (λ _. by-leb Asks b 0xc9 (λ h. tt) (λ _.
-    by-leb Asks b 0xca (λ h. tt) (λ _. by-leb Asks b 0xcb (λ h. tt) (λ _.
-    by-leb Asks b 0xcf (λ h. (omega arith, power (b - 0xcc) (omega arith))) (λ _. by-leb Asks b 0xd3 (λ h. tt) (λ _.
-    by-leb Asks b 0xd8 (λ h. tt) (λ _. by-leb Asks b 0xdb (λ h. tt) (λ _. by-leb Asks b 0xdd (λ h. tt) (λ _.
-    by-leb Asks b 0xdf (λ h. tt) (λ _. tt)))))))))))))))))
+asks : (b : ℕ) → Few 8 (scalarOf Unsigned (formOf b))
+unfolding little formOf sameKind
+asks = few (scalarOf Unsigned) 8 tt
 
 -- a first byte and those that are due after it
 module _ (b w f : ℕ) (e : scalarOf Unsigned (formOf b) ≡ Here w f) where

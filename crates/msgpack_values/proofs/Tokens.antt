@@ -1,19 +1,17 @@
 -- What the first bytes of a value tell, one law for each way that `token_at` and the functions below it take. Assumes nothing.
 use mathlib.Core.Path.{_≡_, refl, sym, ap, _∙_}
-use mathlib.Core.Bool.{Bool, true}
 use mathlib.Core.Logic.{⊎-elim}
 use Prim.Native.Nat.{ℕ, zero, suc, _+_, _-_, _*_, _<_, _≤_}
 use native.Mathlib.Nat.{add-zero, zero-add, zero-mul}
 use native.Mathlib.Omega.{arith}
 use borrow.Author.Tests.{le-leb, lt-leb, eq-eqb, ne-eqb}
-use lib.Dec.{T, leb, eqb}
+use lib.Dec.{eqb}
 use lib.ListN.{length, take, drop, getD}
 use Rattle.msgpack_first_bytes.specs.Bytes.{Bytes, pick}
 use Rattle.msgpack_first_bytes.specs.FirstByte.{formOf}
 use Rattle.msgpack_first_bytes.specs.Entry.{lengthBytes, kindDigit, fixedPayload, entryOf, arrayOfOne, commonLength}
 use Rattle.msgpack_first_bytes.specs.declared.Kind.{Kind}
-use Rattle.msgpack_first_bytes.specs.declared.Form.{Form}
-use Rattle.msgpack_first_bytes.specs.declared.Form.the-variants.{Unused, Scalar, Array, Map}
+use Rattle.msgpack_first_bytes.specs.declared.Form.the-variants.{Scalar, Array, Map}
 use Rattle.msgpack_first_bytes.proofs.Logic.{impossible, either, equal}
 use Rattle.msgpack_first_bytes.proofs.Entries as Entries
 use Rattle.msgpack_numbers.specs.Number.{number}

@@ -1,7 +1,7 @@
 // One MessagePack value at a place of a slice, held to a depth.
 ghost use mathlib.Core.Path.{_≡_};
 ghost use Prim.Native.Nat.{_+_, _-_, _*_, _^_, _<_, _≤_};
-ghost use lib.ListN.{length, take, drop, getD};
+ghost use lib.ListN.{length, take, drop};
 ghost use mathlib.Core.Bool.{true};
 ghost use Rattle.msgpack_first_bytes.specs.Entry.{lengthBytes, kindDigit};
 ghost use Rattle.msgpack_numbers.specs.Number.{number};

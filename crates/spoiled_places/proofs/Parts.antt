@@ -6,7 +6,7 @@ use Prim.Native.Nat.{ℕ, suc, _+_, _*_, _≤_}
 use native.Mathlib.Nat.{mul-one}
 use native.Mathlib.Omega.{arith}
 use borrow.Author.Tests.{leb-true, le-leb}
-use lib.Dec.{leb}
+use lib.Dec.{T, leb, eqb, eqb→eq}
 use lib.ListN.{length, take, drop, length-drop}
 use Rattle.msgpack_first_bytes.specs.Bytes.{Bytes, pick}
 use Rattle.msgpack_first_bytes.specs.FirstByte.{formOf, sameKind}
@@ -14,7 +14,9 @@ use Rattle.msgpack_first_bytes.specs.declared.Kind.{Kind}
 use Rattle.msgpack_first_bytes.specs.declared.Kind.the-variants.{Unsigned, Signed, String}
 use Rattle.msgpack_first_bytes.specs.declared.Form.{Form}
 use Rattle.msgpack_first_bytes.specs.declared.Form.the-variants.{Unused, Scalar, Array, Map}
-use Rattle.msgpack_first_bytes.proofs.Logic.{impossible, past}
+use Rattle.msgpack_first_bytes.proofs.Logic.{impossible}
+use Rattle.msgpack_first_bytes.proofs.Range.{all}
+use Rattle.msgpack_first_bytes.proofs.Forms.{each-form}
 use Rattle.msgpack_numbers.specs.Number.{number}
 use Rattle.msgpack_values.specs.Value.{payload, sized, items, byForm, one, container, value}
 use Rattle.msgpack_values.specs.declared.Read.the-variants.{Whole}
@@ -47,25 +49,15 @@ array-form d b s k e h i = rw (e, le-leb _ _ h, i)
 -- ---- numbers
 
 -- a number has no length bytes
-abbrev NoWidth : Start → Type 0
-NoWidth (Here w f) = w ≡ 0
-NoWidth Elsewhere = Unit {0}
-
-abbrev Plain : Form → Type 0
-Plain F = NoWidth (scalarOf Unsigned F) × NoWidth (scalarOf Signed F)
-
-plain : (b : ℕ) → Plain (formOf b)
-unfolding formOf sameKind
-plain b =
-    past Plain b 0x7f (refl, tt) (past Plain b 0x8f (tt, tt) (past Plain b 0x9f (tt, tt) (past Plain b 0xbf (tt, tt) (past Plain b 0xc0 (tt, tt) (past Plain b 0xc1 (tt, tt)
-    (past Plain b 0xc3 (tt, tt) (past Plain b 0xc6 (tt, tt) (past Plain b 0xc9 (tt, tt) (past Plain b 0xca (tt, tt) (past Plain b 0xcb (tt, tt) (past Plain b 0xcf (refl, tt)
-    (past Plain b 0xd3 (tt, refl) (past Plain b 0xd8 (tt, tt) (past Plain b 0xdb (tt, tt) (past Plain b 0xdd (tt, tt) (past Plain b 0xdf (tt, tt) (tt, refl)))))))))))))))))
+abbrev noWidth : Start → Bool
+noWidth (Here w f) = eqb w 0
+noWidth Elsewhere = true
 
 -- f bytes after the first
-due-whole : (d : ℕ) (k : Kind) → ((b : ℕ) → NoWidth (scalarOf k (formOf b))) → (s : Bytes) (f : ℕ) → due k s ≡ More f → value d s ≡ Whole (1 + f)
+due-whole : (d : ℕ) (k : Kind) → T (all (λ b. noWidth (scalarOf k (formOf b))) 0 256) → (s : Bytes) (f : ℕ) → due k s ≡ More f → value d s ≡ Whole (1 + f)
 unfolding due dueIn number
 due-whole d k plain [] f h = impossible cc
-due-whole d k plain (b ∷ s) f h = by-form (formOf b) refl (plain b) h
+due-whole d k plain (b ∷ s) f h = by-form (formOf b) refl (each-form (λ F. noWidth (scalarOf k F)) plain b) h
   where
     by-length : (j : Kind) (w g : ℕ) → formOf b ≡ Scalar j w g → w ≡ 0 → (t : Bool) → leb g (length s) ≡ t → pick t (More g) Cut ≡ More f → value d (b ∷ s) ≡ Whole (1 + f)
     by-length j w g e z true q h =
@@ -76,25 +68,25 @@ due-whole d k plain (b ∷ s) f h = by-form (formOf b) refl (plain b) h
         scalar-whole d b s e (omega arith) (omega arith) ∙ ap Whole (omega arith)
     by-length j w g e z false q h = impossible cc
 
-    by-kind : (j : Kind) (w g : ℕ) → formOf b ≡ Scalar j w g → (t : Bool) → sameKind j k ≡ t → NoWidth (pick t (Here w g) Elsewhere)
+    by-kind : (j : Kind) (w g : ℕ) → formOf b ≡ Scalar j w g → (t : Bool) → sameKind j k ≡ t → T (noWidth (pick t (Here w g) Elsewhere))
         → dueIn (pick t (Here w g) Elsewhere) s ≡ More f → value d (b ∷ s) ≡ Whole (1 + f)
-    by-kind j w g e true q z h = by-length j w g e z (leb g (length s)) refl h
+    by-kind j w g e true q z h = by-length j w g e (eqb→eq w 0 z) (leb g (length s)) refl h
     by-kind j w g e false q z h = impossible cc
 
-    by-form : (F : Form) → formOf b ≡ F → NoWidth (scalarOf k F) → dueIn (scalarOf k F) s ≡ More f → value d (b ∷ s) ≡ Whole (1 + f)
+    by-form : (F : Form) → formOf b ≡ F → T (noWidth (scalarOf k F)) → dueIn (scalarOf k F) s ≡ More f → value d (b ∷ s) ≡ Whole (1 + f)
     by-form Unused e z h = impossible cc
     by-form (Scalar j w g) e z h = by-kind j w g e (sameKind j k) refl z h
     by-form (Array w g) e z h = impossible cc
     by-form (Map w g) e z h = impossible cc
 
 pub integer-whole : (d : ℕ) (s : Bytes) (z : Int) (e : ℕ) → integer s ≡ IsInt z e → value d s ≡ Whole e
-unfolding integer adding unsigned unsignedBy signed signedBy
+unfolding integer adding unsigned unsignedBy signed signedBy formOf sameKind
 integer-whole d s z e h = by-unsigned (due Unsigned s) refl (due Signed s) refl h
   where
     by-unsigned : (u : Due) → due Unsigned s ≡ u → (x : Due) → due Signed s ≡ x → adding (unsignedBy u s) (signedBy x s) ≡ IsInt z e → value d s ≡ Whole e
-    by-unsigned (More f) q x p h = due-whole d Unsigned (λ b. plain b .0) s f q ∙ ap Whole (let i : 1 + f ≡ e = cc in i)
+    by-unsigned (More f) q x p h = due-whole d Unsigned tt s f q ∙ ap Whole (let i : 1 + f ≡ e = cc in i)
     by-unsigned Cut q x p h = impossible cc
-    by-unsigned Other q (More f) p h = due-whole d Signed (λ b. plain b .1) s f p ∙ ap Whole (let i : 1 + f ≡ e = cc in i)
+    by-unsigned Other q (More f) p h = due-whole d Signed tt s f p ∙ ap Whole (let i : 1 + f ≡ e = cc in i)
     by-unsigned Other q Cut p h = impossible cc
     by-unsigned Other q Other p h = impossible cc
 

@@ -2,18 +2,15 @@
 use mathlib.Core.Path.{_≡_, refl, ap, _∙_, subst}
 use mathlib.Core.Bool.{Bool, true, false}
 use mathlib.Core.List.{[], _∷_, _++_, append-nil}
-use mathlib.Core.Logic.{_⊎_, inl, inr, ⊎-elim}
 use mathlib.Core.Option.{some}
-use Prim.Native.Nat.{ℕ, suc, _+_, _-_, _*_, _^_, _<_, _≤_}
+use Prim.Native.Nat.{ℕ, suc, _+_, _-_, _^_, _<_, _≤_}
 use native.Mathlib.Omega.{arith}
 use borrow.Author.Tests.{leb-true, le-leb, eqb-true, eq-eqb}
-use lib.Dec.{leb, eqb}
+use lib.Dec.{T, leb, leb→le, eqb}
 use lib.ListN.{length, take, drop, length-drop}
-use lib.Pow.{pow-pos}
 use lib.Seq.{take-length, drop-append-seam}
 use Rattle.msgpack_first_bytes.specs.Bytes.{Bytes, pick}
 use Rattle.msgpack_first_bytes.specs.FirstByte.{formOf}
-use Rattle.msgpack_first_bytes.specs.declared.Form.{Form}
 use Rattle.msgpack_numbers.specs.Number.{number}
 use Rattle.msgpack_values.specs.Value.{value, items}
 use Rattle.msgpack_values.specs.Pieces.{pieces, joined, Each}
@@ -29,7 +26,8 @@ use Rattle.msgpack_scalars.specs.declared.Header.{Header}
 use Rattle.msgpack_scalars.specs.declared.Header.the-variants.{Is, Other}
 use Rattle.msgpack_writing.specs.Forms.{bigEndian, arrayHeader}
 use Rattle.msgpack_read_back.proofs.Back.{array-header-back}
-use Rattle.msgpack_first_bytes.proofs.Logic.{impossible, by-leb, past}
+use Rattle.msgpack_first_bytes.proofs.Logic.{impossible, by-eqb}
+use Rattle.msgpack_first_bytes.proofs.Forms.{each-form}
 use Rattle.msgpack_writing.proofs.Lengths.{array-mono}
 use Rattle.tuples.specs.Limits.{maxFields, maxTuple, fieldDepth}
 use Rattle.tuples.specs.Tuple.{Fields, plain, filling, fieldsFilling, fieldsBy, fieldsOf}
@@ -40,40 +38,34 @@ use Rattle.tuples.proofs.Legal.{Legal, plain-length}
 -- ---- no array's header is shorter than the one that is written
 
 -- 16 fields and more take two count bytes at least
-abbrev Enough : Start → Type 0
-Enough (Here w f) = ((w ≡ 0) × (f < 16)) ⊎ (2 ≤ w)
-Enough Elsewhere = Unit {0}
+abbrev enough : Start → Bool
+enough (Here w f) = pick (eqb w 0) (leb f 15) (leb 2 w)
+enough Elsewhere = true
 
-abbrev Wide : Form → Type 0
-Wide F = Enough (arrayBy F)
-
-array-wide : (b : ℕ) → Wide (formOf b)
+array-wide : (b : ℕ) → T (enough (arrayBy (formOf b)))
 unfolding formOf
-array-wide b =
-    past Wide b 0x7f tt (past Wide b 0x8f tt (by-leb Wide b 0x9f (λ h. inl (refl, omega arith))
-    (λ _. (past Wide b 0xbf tt (past Wide b 0xc0 tt (past Wide b 0xc1 tt (past Wide b 0xc3 tt (past Wide b 0xc6 tt (past Wide b 0xc9 tt (past Wide b 0xca tt
-    (past Wide b 0xcb tt (past Wide b 0xcf tt (past Wide b 0xd3 tt (past Wide b 0xd8 tt (past Wide b 0xdb tt (past Wide b 0xdd (inr two) (past Wide b 0xdf tt tt)))))))))))))))))
-  where
-    two : 2 ≤ 2 * 2 ^ (b - 0xdc)
-    two = let h : 0 < 2 ^ (b - 0xdc) = pow-pos (b - 0xdc) in omega arith
+array-wide = each-form (λ h. enough (arrayBy h)) tt
 
 pub array-short : (t : Bytes) (n e : ℕ) → n < 2 ^ 16 → header arrayBy t ≡ Is n e → (length (arrayHeader n) ≤ e) × (e ≤ length t)
 unfolding header counted number arrayHeader bigEndian
 array-short [] n e l h = impossible (cc)
 array-short (b ∷ s) n e l h = by-start (arrayBy (formOf b)) (array-wide b) h
   where
-    by-count : (w f : ℕ) → Enough (Here w f) → (t : Bool) → leb w (length s) ≡ t → pick t (Is (number (take w s) + f) (1 + w)) Other ≡ Is n e
+    by-count : (w f : ℕ) → T (enough (Here w f)) → (t : Bool) → leb w (length s) ≡ t → pick t (Is (number (take w s) + f) (1 + w)) Other ≡ Is n e
         → (length (arrayHeader n) ≤ e) × (e ≤ suc (length s))
     by-count w f r true q h =
         let k = leb-true w (length s) q in
         let p : 1 + w ≡ e = cc in
         let x : number (take w s) + f ≡ n = cc in
         let few = array-mono n 15 in
-        let all = array-mono n 65535 (omega arith) in
-        (⊎-elim (λ z. let o : number (take w s) ≡ 0 = rw (z .0) in let m = few (omega arith) in omega arith) (λ z. omega arith) r, omega arith)
+        let all = array-mono n 65535 (omega arith) in (
+          by-eqb (λ (t : Bool). T t → length (arrayHeader n) ≤ e) w 0
+              (λ z r. let o : number (take w s) ≡ 0 = rw z in let m = few (omega (arith, leb→le f 15 r)) in omega arith) (λ _ r. omega (arith, leb→le 2 w r)) r,
+          omega arith,
+        )
     by-count w f r false q h = impossible (cc)
 
-    by-start : (x : Start) → Enough x → counted x s ≡ Is n e → (length (arrayHeader n) ≤ e) × (e ≤ suc (length s))
+    by-start : (x : Start) → T (enough x) → counted x s ≡ Is n e → (length (arrayHeader n) ≤ e) × (e ≤ suc (length s))
     by-start (Here w f) r h = by-count w f r (leb w (length s)) refl h
     by-start Elsewhere r h = impossible (cc)
 

@@ -3,20 +3,17 @@ use borrow.Author.Needs.{needs}
 use native.Mathlib.Omega.{arith}
 use Prim.Native.Nat.{ℕ, _<_}
 use lib.Dec.{leb, leb→le}
-use mathlib.Core.Path.{_≡_, _∙_}
+use mathlib.Core.Path.{_≡_}
 use Rattle.msgpack_first_bytes.specs.FirstByte.{formOf}
 use Rattle.msgpack_first_bytes.specs.Entry.{lengthBytes, kindDigit, fixedPayload}
-use Rattle.msgpack_first_bytes.proofs.Entries.{formBy, said, no-kind}
+use Rattle.msgpack_first_bytes.proofs.Entries.{formBy, said, unused-said}
 use Rattle.msgpack_first_bytes.proofs.Range.{other-at}
 use Rattle.msgpack_first_bytes.proofs.form_of.Statement.{statement}
 use Rattle.msgpack_first_bytes.proofs.form_of.Tie as tie
 
-module _ (c : tie.After-entry) where
-  digits : (let e = c .entry .result in formBy (kindDigit e) (lengthBytes e) (fixedPayload e) ≡ formOf (c .before .args .b))
-  digits = said (c .before .args .b) (c .entry .result) (search needs) (c .entry .ensures)
-
-  is : (k : ℕ) → (let e = c .entry .result in kindDigit e ≡ k → formBy k (lengthBytes e) (fixedPayload e) ≡ formOf (c .before .args .b))
-  is k q = rw q at digits
+-- the form of a kind whose digit is k
+is : (c : tie.After-entry) (k : ℕ) → (let e = c .entry .result in kindDigit e ≡ k → formBy k (lengthBytes e) (fixedPayload e) ≡ formOf (c .before .args .b))
+is c k q = rw q at (said (c .before .args .b) (c .entry .result) (c .entry .ensures))
 
 pub form-of-spec : {M : Type 1} → statement M
 form-of-spec =
@@ -32,6 +29,6 @@ form-of-spec =
     (λ c. is (c .before) 8 (c .match .keys9))
     (λ c. is (c .before) 9 (c .match .keys10))
     (λ c. is (c .before) 10 (c .match .keys11))
-    (λ c. let k = kindDigit (c .before .entry .result) in
-    let h : k < 16 = omega arith in
-    no-kind k _ _ h (leb→le 11 k (other-at (leb 11) 11 16 tt k h (c .match .rest))) ∙ digits (c .before)))
+    (λ c. let e = c .before .entry .result in
+    let h : kindDigit e < 16 = omega arith in
+    unused-said (c .before .before .args .b) e (c .before .entry .ensures) (leb→le 11 (kindDigit e) (other-at (leb 11) 11 16 tt (kindDigit e) h (c .match .rest)))))

@@ -12,9 +12,8 @@ use Rattle.msgpack_scalars.proofs.header_at.Tie as tie
 counted-at-requires : tie.Need-counted-at-requires
 counted-at-requires c κs =
     let a = c .before .before .before .before .before .args in
-    let b = c .before .before .shared-slice-known2 .given (a .at) in
     let e = c .start-of .ensures ∙ ap (startBy (a .opening)) (c .before .form-of .ensures) in
-    (omega arith, subst (Few 31) (sym e) (start-few (a .opening) {b = getD (a .s .now) (a .at) 0} (omega arith)))
+    (omega arith, subst (Few 31) (sym e) (start-few (a .opening) (getD (a .s .now) (a .at) 0)))
 
 returns-2 : tie.Need-returns-2
 returns-2 c =

@@ -16,8 +16,7 @@ there : (c : tie.After-known-told) → (let a = c .before .before .before .befor
 unfolding little formOf sameKind
 there c =
     let a = c .before .before .before .before .before .args in
-    let b = c .before .before .before .before .shared-slice-known .given (a .at) in
-    due-there Unsigned tt (a .s .now) (a .at) _ (omega arith) (sym (c .before .more .given .1) ∙ c .before .before .before .due-at .ensures)
+    due-there Unsigned tt (a .s .now) (a .at) _ (sym (c .before .more .given .1) ∙ c .before .before .before .due-at .ensures)
 
 pub unsigned-by-form-spec : {M : Type 1} → statement M
 unfolding unsigned unsignedBy

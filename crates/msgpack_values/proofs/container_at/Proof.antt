@@ -1,7 +1,6 @@
 -- Too deep, unused, cut short, or its values. Assumes nothing.
 use borrow.Author.Needs.{needs}
 use native.Mathlib.Omega.{arith}
-use Prim.Native.Nat.{_<_}
 use Rattle.msgpack_values.proofs.Tokens as Tokens
 use Rattle.msgpack_values.proofs.container_at.Statement.{statement}
 use Rattle.msgpack_values.proofs.container_at.Tie as tie

@@ -1,6 +1,5 @@
 -- Past the end, or by the table. Assumes nothing.
 use borrow.Author.Needs.{needs}
-use native.Mathlib.Omega.{arith}
 use mathlib.Core.Path.{_∙_}
 use Rattle.msgpack_values.proofs.Tokens as Tokens
 use Rattle.msgpack_values.proofs.first_byte_entry.Statement.{statement}

@@ -1,6 +1,5 @@
 -- Whole or broken. Assumes nothing.
 use borrow.Author.Needs.{needs}
-use native.Mathlib.Omega.{arith}
 use Rattle.msgpack_values.specs.Tokens.{tokenOf}
 use Rattle.msgpack_values.proofs.token_of.Statement.{statement}
 use Rattle.msgpack_values.proofs.token_of.Tie as tie
