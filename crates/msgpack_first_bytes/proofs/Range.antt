@@ -54,6 +54,17 @@ alike-eq false false t = refl
 pub agree-tests : (p q : ℕ → Bool) (lo n : ℕ) → T (all (λ b. alike (p b) (q b)) lo n) → {b : ℕ} → b < lo + n → lo ≤ b → p b ≡ q b
 agree-tests p q lo n t {b} k h = alike-eq (p b) (q b) (all-at (λ b. alike (p b) (q b)) lo n t k h)
 
+-- two tests that pass together are the same
+pub tests-same : (a b : Bool) → (T a → T b) → (T b → T a) → a ≡ b
+tests-same true true f g = refl
+tests-same true false f g = absurd (f tt)
+tests-same false true f g = absurd (g tt)
+tests-same false false f g = refl
+
+-- a test that passes at each number below n
+pub below-at : (p : ℕ → Bool) {n b : ℕ} → b < n → T (all p 0 n) → T (p b)
+below-at p {n} {b} h t = all-at p 0 n t (omega arith) (omega arith)
+
 -- the test passes at each entry of a table, by its place, counted from i
 abbrev pub each : (ℕ → ℕ → Bool) → ℕ → List ℕ → Bool
 each p i [] = true

@@ -18,5 +18,5 @@ common-length-spec =
     (λ c. agrees (λ b. b - 0x9f) (λ b. commonLength (entryOf b)) 0xa0 32 tt (c .if4 .taken) (omega arith))
     (λ c. agrees (λ b. 0) (λ b. commonLength (entryOf b)) 0xc0 12 tt (c .if5 .taken) (omega arith)) (λ c. search needs) (λ c. search needs)
     (λ c. omega (arith, pow-mono {i = c .before .before .before .before .before .before .args .b % 4} {j = 3} (omega arith)))
-    (λ c. agrees (λ b. 1 + 1 * 2 ^ (b % 4) % 2 ^ 64) (λ b. commonLength (entryOf b)) 0xcc 8 tt (c .if6 .taken) (omega arith))
+    (λ c. agrees (λ b. 1 + 1 * 2 ^ (b % 4) % 2 ^ 64) (λ b. commonLength (entryOf b)) 0xcc 8 tt {b = c .before .before .before .before .before .before .args .b} (omega arith) (omega arith))
     (λ c. agrees (λ b. 0) (λ b. commonLength (entryOf b)) 0xd4 12 tt {b = c .before .before .before .before .before .before .args .b} (omega arith) (omega arith)))
