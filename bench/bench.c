@@ -203,6 +203,25 @@ static void check_updates(void)
     demand(a.number == p.number && a.length == p.length && !memcmp(update.out, plain, p.length), "undo");
 }
 
+/* A press writes what plain C's writes, and what the update call and the undo call write. */
+static void check_press(void)
+{
+    static uint8_t tuple[SAMPLE_ROOM], list[SAMPLE_ROOM];
+    const struct sample *t = &update.tuple, *l = &update.list;
+    struct plain_press_answer p = plain_press(t->bytes, t->n, l->bytes, l->n, INDEX_BASE, tuple, sizeof tuple, list,
+                                              sizeof list);
+    lak_press_answer a = lak_press(t->bytes, t->n, l->bytes, l->n, INDEX_BASE, update.out, sizeof update.out,
+                                   update.undo, sizeof update.undo);
+    demand(a.number == p.number && a.length == p.length && a.undo_length == p.undo_length, "press");
+    demand(!memcmp(update.out, tuple, p.length) && !memcmp(update.undo, list, p.undo_length), "press");
+    if (a.number != LAK_OK)
+        return;
+    uint64_t both = lak_updating_and_undoing(&update);
+    demand(both == p.length + p.undo_length && !memcmp(update.out, tuple, p.length) &&
+               !memcmp(update.undo, list, p.undo_length),
+           "press in one");
+}
+
 static void update_row(const struct server_times *server)
 {
     struct contender c[4] = {
@@ -245,6 +264,38 @@ static void updates_table(const char *server_file)
     for (size_t i = 0; i < UPDATE_ROWS; i++) {
         load_update(rows[i].bytes, rows[i].operations);
         update_row(&rows[i]);
+    }
+}
+
+/* ---- presses ---- */
+
+static void press_row(size_t operations)
+{
+    struct contender c[4] = {
+        { lak_pressing, &update, 0, 0 },
+        { plain_pressing, &update, 0, 0 },
+        { lak_updating, &update, 0, 0 },
+        { lak_updating_and_undoing, &update, 0, 0 },
+    };
+    check_press();
+    race(c, 4);
+    printf("%6zu %4zu", update.tuple.n, operations);
+    print_ns(&c[0]);
+    for (int i = 1; i < 4; i++)
+        print_against(&c[0], &c[i]);
+    printf("\n");
+}
+
+static void presses_table(void)
+{
+    struct server_times rows[UPDATE_ROWS];
+    update_rows(rows);
+    printf("\nPresses: lak_press, against plain C, against lak_update alone, and against both calls in turn\n");
+    printf("%6s %4s %9s %9s %6s %9s %6s %9s %6s\n", "tuple", "ops", "press ns", "plain C", "ratio", "update", "ratio",
+           "and undo", "ratio");
+    for (size_t i = 0; i < UPDATE_ROWS; i++) {
+        load_update(rows[i].bytes, rows[i].operations);
+        press_row(rows[i].operations);
     }
 }
 
@@ -317,7 +368,7 @@ static void list_growth(const char *name, bench_work work)
 
 static void growth_table(void)
 {
-    printf("\nGrowth: ns per byte (of the last two: per operation) at 1, 4 and 16 times the size\n");
+    printf("\nGrowth: ns per byte (of the last three: per operation) at 1, 4 and 16 times the size\n");
     values_growth("values: tuples of an answer", answer_sample, 30);
     values_growth("values: strings", strings_sample, 16);
     values_growth("values: small integers", integers_sample, 4000);
@@ -328,8 +379,10 @@ static void growth_table(void)
     tuple_growth("update, 1 operation, by tuple", lak_updating, 1);
     tuple_growth("update, 16 operations, by tuple", lak_updating, 16);
     tuple_growth("undo, 16 operations, by tuple", lak_undoing, 16);
+    tuple_growth("press, 16 operations, by tuple", lak_pressing, 16);
     list_growth("update, 4 KB, by operations", lak_updating);
     list_growth("undo, 4 KB, by operations", lak_undoing);
+    list_growth("press, 4 KB, by operations", lak_pressing);
 }
 
 /* ---- stack ---- */
@@ -337,6 +390,16 @@ static void growth_table(void)
 static void stack_row(const char *name, const char *on, bench_work work, void *input)
 {
     printf("%-18s %7zu  %s\n", name, stack_of(work, input), on);
+}
+
+/* The three calls on the tuple and list that are loaded. */
+static void update_stack_rows(const char *on)
+{
+    check_updates();
+    check_press();
+    stack_row("lak_update", on, lak_updating, &update);
+    stack_row("lak_undo", "the same", lak_undoing, &update);
+    stack_row("lak_press", "the same", lak_pressing, &update);
 }
 
 static void stack_table(void)
@@ -353,11 +416,18 @@ static void stack_table(void)
     stack_row("lak_session_open", "a carry buffer of 60,009 bytes", lak_opening, &line);
     stack_row("lak_session_reset", "no input", lak_resetting, &line);
     stack_row("lak_session_feed", "a value 15 deep, its last byte in a second piece", lak_feeding, &line);
+    load_update(20, 1);
+    update_stack_rows("21 bytes, 1 operation");
+    load_update(16000, 64);
+    update_stack_rows("16 KB, 64 operations");
     deep_tuple_sample(&update.tuple, 16 * KIB);
     deep_list_sample(&update.list, 64);
-    check_updates();
-    stack_row("lak_update", "16 KB, 64 operations, fields 12 deep", lak_updating, &update);
-    stack_row("lak_undo", "the same", lak_undoing, &update);
+    update_stack_rows("16 KB, 64 operations, fields 12 deep");
+    long_tuple_sample(&update.tuple, 400);
+    splices_sample(&update.list, 64);
+    update_stack_rows("a string of 400 bytes, spliced 64 times");
+    long_tuple_sample(&update.tuple, KIB);
+    update_stack_rows("a string of 1 KB, spliced 64 times: the undo list is refused with 17");
 }
 
 int main(int argc, char **argv)
@@ -366,6 +436,7 @@ int main(int argc, char **argv)
     frames_table();
     sessions_table();
     updates_table(argc > 1 ? argv[1] : NULL);
+    presses_table();
     growth_table();
     stack_table();
     return 0;

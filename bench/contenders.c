@@ -124,6 +124,22 @@ uint64_t lak_undoing(void *update_input)
         .length;
 }
 
+uint64_t lak_pressing(void *update_input)
+{
+    struct update_input *u = update_input;
+    lak_press_answer a = lak_press(u->tuple.bytes, u->tuple.n, u->list.bytes, u->list.n, INDEX_BASE, u->out,
+                                   sizeof u->out, u->undo, sizeof u->undo);
+    return a.length + a.undo_length;
+}
+
+uint64_t lak_updating_and_undoing(void *update_input)
+{
+    struct update_input *u = update_input;
+    return lak_updating(u) + lak_undo(u->tuple.bytes, u->tuple.n, u->list.bytes, u->list.n, INDEX_BASE, u->undo,
+                                      sizeof u->undo)
+                                 .length;
+}
+
 uint64_t plain_updating(void *update_input)
 {
     struct update_input *u = update_input;
@@ -137,4 +153,12 @@ uint64_t plain_undoing(void *update_input)
     struct update_input *u = update_input;
     return plain_undo(u->tuple.bytes, u->tuple.n, u->list.bytes, u->list.n, INDEX_BASE, u->out, sizeof u->out)
         .length;
+}
+
+uint64_t plain_pressing(void *update_input)
+{
+    struct update_input *u = update_input;
+    struct plain_press_answer a = plain_press(u->tuple.bytes, u->tuple.n, u->list.bytes, u->list.n, INDEX_BASE,
+                                              u->out, sizeof u->out, u->undo, sizeof u->undo);
+    return a.length + a.undo_length;
 }

@@ -36,11 +36,15 @@ uint64_t lak_resetting(void *line_input);
 /* A tuple and a list of operations on it. */
 struct update_input {
     struct sample tuple, list;
-    uint8_t out[SAMPLE_ROOM];
+    uint8_t out[SAMPLE_ROOM], undo[SAMPLE_ROOM];
 };
 uint64_t lak_updating(void *update_input);
 uint64_t lak_undoing(void *update_input);
+uint64_t lak_pressing(void *update_input);
+/* What a press is without that call: an update, then the undo list of the same. */
+uint64_t lak_updating_and_undoing(void *update_input);
 uint64_t plain_updating(void *update_input);
 uint64_t plain_undoing(void *update_input);
+uint64_t plain_pressing(void *update_input);
 
 #endif

@@ -83,8 +83,10 @@ int main(int argc, char **argv)
         { "feed", lak_feeding, &line, make_line },
         { "update", lak_updating, &update, make_update },
         { "undo", lak_undoing, &update, make_update },
+        { "press", lak_pressing, &update, make_update },
         { "plain-update", plain_updating, &update, make_update },
         { "plain-undo", plain_undoing, &update, make_update },
+        { "plain-press", plain_pressing, &update, make_update },
     };
     if (argc != 4)
         return 2;

@@ -1,3 +1,5 @@
+/* A field is a place: where its bytes stand. The operations change a table of places, computed numbers and
+ * spliced strings are put into a work array, and the result is gathered once, after all is judged. */
 #include "plain_update.h"
 
 #include <stdbool.h>
@@ -321,115 +323,220 @@ static bool take_operation(struct span *s, struct operation *o, uint64_t base)
     return take_integer(s, &o->field) && take_argument(s, o, base);
 }
 
-static bool take_list(struct span s, uint64_t base, struct operation *operations, size_t *count)
-{
-    uint64_t n;
-    if (base > 1 || left(s) > MAX_LIST || !take_array(&s, &n) || n > MAX_OPERATIONS)
-        return false;
-    for (size_t i = 0; i < n; i++)
-        if (!take_operation(&s, &operations[i], base))
-            return false;
-    *count = n;
-    return s.at == s.end;
-}
+/* ---- the fields: a table of places with free entries on both sides ---- */
 
-/* ---- the tuple under work: its fields back to back ---- */
+/* Places side by side in one source are copied at once. */
+enum source { TUPLE, LIST, WORK, SPARE };
 
-struct tuple {
-    size_t fields, bytes;
-    size_t lengths[MAX_FIELDS];
-    uint8_t data[MAX_TUPLE];
+struct place {
+    const uint8_t *at;
+    uint32_t n, source;
 };
 
-static bool take_tuple(struct span s, struct tuple *t)
+struct table {
+    size_t head, fields, bytes;
+    size_t low, tail; /* the first and last fields that lie side by side, as they were loaded */
+    struct place entries[MAX_FIELDS + 2 * MAX_OPERATIONS];
+};
+
+static struct place *field_at(struct table *t, size_t f)
+{
+    return &t->entries[t->head + f];
+}
+
+static struct span bytes_of(const struct place *p)
+{
+    struct span s = {p->at, p->at + p->n};
+    return s;
+}
+
+static void set_place(struct place *p, struct span s, enum source source)
+{
+    p->at = s.at;
+    p->n = (uint32_t)left(s);
+    p->source = source;
+}
+
+static bool take_tuple(struct span s, struct table *t)
 {
     uint64_t n;
     if (left(s) > MAX_TUPLE || !take_array(&s, &n) || n > MAX_FIELDS)
         return false;
-    const uint8_t *start = s.at;
+    t->head = MAX_OPERATIONS;
+    t->fields = t->low = t->tail = n;
+    t->bytes = left(s);
     for (size_t i = 0; i < n; i++) {
-        const uint8_t *from = s.at;
+        struct span field = s;
         if (!pass_value(&s, FIELD_DEPTH))
             return false;
-        t->lengths[i] = (size_t)(s.at - from);
+        field.end = s.at;
+        set_place(field_at(t, i), field, TUPLE);
     }
-    if (s.at != s.end)
-        return false;
-    t->fields = n;
-    t->bytes = (size_t)(s.end - start);
-    memcpy(t->data, start, t->bytes);
-    return true;
+    return s.at == s.end;
 }
 
-static size_t offset_of(const struct tuple *t, size_t f)
+static bool fits(size_t fields, size_t bytes)
 {
-    size_t at = 0;
-    for (size_t i = 0; i < f; i++)
-        at += t->lengths[i];
-    return at;
+    return fields <= MAX_FIELDS && array_header_length(fields) + bytes <= MAX_TUPLE;
 }
 
-/* `gone` fields from f on make way for one of `n` bytes, or for none where there is no piece. */
-static int replace(struct tuple *t, size_t f, size_t gone, const uint8_t *piece, size_t n)
+/* From f on, `gone` fields are no longer as they were loaded. */
+static void touch(struct table *t, size_t f, size_t gone)
 {
-    size_t more = piece != NULL;
-    size_t at = offset_of(t, f), gone_bytes = 0;
-    for (size_t i = 0; i < gone; i++)
-        gone_bytes += t->lengths[f + i];
-    size_t fields = t->fields - gone + more;
-    size_t bytes = t->bytes - gone_bytes + n;
-    if (fields > MAX_FIELDS || array_header_length(fields) + bytes > MAX_TUPLE)
-        return TOO_LARGE;
-    memmove(t->data + at + n, t->data + at + gone_bytes, t->bytes - at - gone_bytes);
-    memmove(t->lengths + f + more, t->lengths + f + gone, (t->fields - f - gone) * sizeof t->lengths[0]);
-    if (more) {
-        memcpy(t->data + at, piece, n);
-        t->lengths[f] = n;
+    size_t behind = t->fields - f - gone;
+    t->low = f < t->low ? f : t->low;
+    t->tail = behind < t->tail ? behind : t->tail;
+}
+
+static void put_in(struct table *t, size_t f, struct span s, enum source source)
+{
+    struct place *front = field_at(t, 0), *at = field_at(t, f);
+    size_t behind = t->fields - f;
+    touch(t, f, 0);
+    if (f < behind) { /* the fewer move */
+        memmove(front - 1, front, f * sizeof *front);
+        t->head--;
+        at--;
+    } else {
+        memmove(at + 1, at, behind * sizeof *at);
     }
-    t->fields = fields;
-    t->bytes = bytes;
-    return DONE;
+    set_place(at, s, source);
+    t->fields++;
+    t->bytes += left(s);
 }
 
-/* ---- the undo list, from the end of a buffer towards its front ---- */
+static size_t bytes_in(const struct place *p, size_t n)
+{
+    size_t bytes = 0;
+    for (size_t i = 0; i < n; i++)
+        bytes += p[i].n;
+    return bytes;
+}
+
+static void take_out(struct table *t, size_t f, size_t gone)
+{
+    struct place *front = field_at(t, 0), *at = field_at(t, f);
+    size_t behind = t->fields - f - gone;
+    touch(t, f, gone);
+    t->bytes -= bytes_in(at, gone);
+    if (f < behind) {
+        memmove(front + gone, front, f * sizeof *front);
+        t->head += gone;
+    } else {
+        memmove(at, at + gone, behind * sizeof *at);
+    }
+    t->fields -= gone;
+}
+
+static void exchange(struct table *t, size_t f, struct span s, enum source source)
+{
+    struct place *at = field_at(t, f);
+    touch(t, f, 1);
+    t->bytes = t->bytes - at->n + left(s);
+    set_place(at, s, source);
+}
+
+/* ---- gathering ---- */
+
+/* Places that are known to lie side by side. */
+static uint8_t *gather_run(const struct place *p, size_t n, uint8_t *out)
+{
+    if (n == 0)
+        return out;
+    size_t bytes = (size_t)(p[n - 1].at + p[n - 1].n - p[0].at);
+    memcpy(out, p[0].at, bytes);
+    return out + bytes;
+}
+
+static uint8_t *gather_runs(const struct place *p, size_t n, uint8_t *out)
+{
+    size_t from = 0;
+    for (size_t i = 1; i <= n; i++)
+        if (i == n || p[i].source != p[i - 1].source || p[i].at != p[i - 1].at + p[i - 1].n) {
+            out = gather_run(p + from, i - from, out);
+            from = i;
+        }
+    return out;
+}
+
+static void gather(struct table *t, uint8_t *out)
+{
+    size_t low = t->low, tail = t->tail < t->fields - low ? t->tail : t->fields - low;
+    out = gather_run(field_at(t, 0), low, out);
+    out = gather_runs(field_at(t, low), t->fields - low - tail, out);
+    gather_run(field_at(t, t->fields - tail), tail, out);
+}
+
+/* ---- the work array, which is only added to ---- */
+
+enum { WORK_ROOM = MAX_TUPLE + MAX_LIST };
+
+struct work {
+    size_t used, spare;
+    uint8_t log[WORK_ROOM];
+    uint8_t spares[2][MAX_TUPLE];
+};
+
+/* Room for n bytes more. Where there is none, the fields are gathered into the spare array that does not hold them. The
+ * old fields of an undo list are lost, but it is too long then: whatever was made is in the tuple or in that list. */
+static uint8_t *room_for(struct work *w, struct table *t, size_t n)
+{
+    if (WORK_ROOM - w->used < n) {
+        uint8_t *at = w->spares[w->spare];
+        w->spare ^= 1;
+        w->used = 0;
+        gather(t, at);
+        for (size_t i = 0; i < t->fields; i++) {
+            struct place *p = field_at(t, i);
+            p->at = at;
+            p->source = SPARE;
+            at += p->n;
+        }
+        t->low = t->tail = t->fields;
+    }
+    return w->log + w->used;
+}
+
+/* ---- the undo list: what takes each operation back ---- */
+
+struct entry {
+    uint8_t mark, f; /* below 128 */
+    struct place old;
+};
 
 struct undo {
     size_t operations, bytes;
-    bool full;
-    uint8_t data[MAX_LIST];
+    struct entry entries[MAX_OPERATIONS];
 };
 
-static void lay(struct undo *u, char mark, size_t f, const uint8_t *argument, size_t n)
+static void lay(struct undo *u, char mark, size_t f, const struct place *old)
 {
-    u->operations++;
-    if (u->full || MAX_LIST - u->bytes < 4 + n) {
-        u->full = true;
-        return;
+    if (u->operations < MAX_OPERATIONS) {
+        struct entry *e = &u->entries[u->operations];
+        e->mark = (uint8_t)mark;
+        e->f = (uint8_t)f;
+        e->old = *old;
     }
-    u->bytes += 4 + n;
-    uint8_t *at = u->data + MAX_LIST - u->bytes;
-    at[0] = 0x93;
-    at[1] = 0xa1;
-    at[2] = (uint8_t)mark;
-    at[3] = (uint8_t)f; /* below 128 */
-    memcpy(at + 4, argument, n);
+    u->operations++;
+    u->bytes += 4 + old->n;
 }
 
-/* Before `gone` fields from f on are replaced, or a field comes in where none goes. */
-static void lay_inverse(struct undo *u, const struct tuple *t, uint8_t mark, size_t f, size_t gone)
+/* Before `gone` fields from f on are exchanged or taken out, or a field is put in where none goes. */
+static void lay_inverse(struct undo *u, struct table *t, char mark, size_t f, size_t gone)
 {
-    static const uint8_t one = 1;
+    static const uint8_t one_byte = 1;
+    static const struct place one = {&one_byte, 1, LIST};
     if (!u)
         return;
-    if (gone == 0) {
-        lay(u, '#', f, &one, 1);
-        return;
-    }
-    const uint8_t *at = t->data + offset_of(t, f);
-    for (size_t i = 0; i < gone; i++) {
-        lay(u, mark == '#' ? '!' : '=', f, at, t->lengths[f + i]);
-        at += t->lengths[f + i];
-    }
+    if (gone == 0)
+        lay(u, '#', f, &one);
+    for (size_t i = 0; i < gone; i++)
+        lay(u, mark == '#' ? '!' : '=', f, field_at(t, f + i));
+}
+
+static bool too_long(const struct undo *u)
+{
+    return u->operations > MAX_OPERATIONS || array_header_length(u->operations) + u->bytes > MAX_LIST;
 }
 
 /* ---- operations ---- */
@@ -480,115 +587,223 @@ static int compute(const struct operation *o, struct span field, struct integer 
     return DONE;
 }
 
-/* The new string into `work`, which holds a tuple: a longer one is refused. */
-static int splice(const struct operation *o, struct span field, uint8_t *work, size_t *n)
+/* How many bytes of a string a splice keeps in front and behind. */
+struct kept {
+    size_t front, back;
+};
+
+static struct kept kept_of(const struct operation *o, struct span s)
 {
-    struct span s;
+    struct kept k;
+    k.front = o->position < left(s) ? o->position : left(s);
+    size_t rest = left(s) - k.front;
+    k.back = o->count < rest ? rest - o->count : 0;
+    return k;
+}
+
+static uint8_t *put_bytes(uint8_t *out, const uint8_t *bytes, size_t n)
+{
+    memcpy(out, bytes, n);
+    return out + n;
+}
+
+/* The new string at the end of the work array. */
+static int splice(const struct operation *o, struct table *t, size_t f, struct work *w, struct span *made)
+{
+    uint8_t header[3];
+    struct span s, field = bytes_of(field_at(t, f));
     if (!take_string(&field, &s))
         return UNSUITED;
-    size_t position = o->position < left(s) ? o->position : left(s);
-    size_t rest = left(s) - position;
-    size_t back = o->count < rest ? rest - o->count : 0;
-    size_t length = position + left(o->bytes) + back;
-    if (length > MAX_TUPLE - 3)
+    struct kept k = kept_of(o, s);
+    size_t length = k.front + left(o->bytes) + k.back;
+    if (length > MAX_TUPLE)
         return TOO_LARGE;
-    uint8_t *at = work + put_string_header(work, length);
-    memcpy(at, s.at, position);
-    memcpy(at + position, o->bytes.at, left(o->bytes));
-    memcpy(at + position + left(o->bytes), s.end - back, back);
-    *n = (size_t)(at - work) + length;
+    size_t n = put_string_header(header, length);
+    if (!fits(t->fields, t->bytes - field_at(t, f)->n + n + length))
+        return TOO_LARGE;
+    uint8_t *at = room_for(w, t, n + length);
+    field = bytes_of(field_at(t, f)); /* it may have been moved */
+    take_string(&field, &s);
+    made->at = at;
+    at = put_bytes(at, header, n);
+    at = put_bytes(at, s.at, k.front);
+    at = put_bytes(at, o->bytes.at, left(o->bytes));
+    made->end = put_bytes(at, s.end - k.back, k.back);
     return DONE;
 }
 
-static int alter(const struct operation *o, struct tuple *t, size_t f, uint8_t *work, struct undo *u)
+/* The new number there. */
+static int number(const struct operation *o, struct table *t, size_t f, struct work *w, struct span *made)
 {
-    const uint8_t *at = t->data + offset_of(t, f);
-    struct span field = { at, at + t->lengths[f] };
     struct integer z;
-    size_t n = 0;
-    int number = o->mark == ':' ? splice(o, field, work, &n) : compute(o, field, &z);
-    if (number != DONE)
-        return number;
-    if (o->mark != ':')
-        n = put_integer(work, z);
-    lay_inverse(u, t, o->mark, f, 1);
-    return replace(t, f, 1, work, n);
+    int refusal = compute(o, bytes_of(field_at(t, f)), &z);
+    if (refusal != DONE)
+        return refusal;
+    uint8_t *at = room_for(w, t, 9);
+    made->at = at;
+    made->end = at + put_integer(at, z);
+    return fits(t->fields, t->bytes - field_at(t, f)->n + left(*made)) ? DONE : TOO_LARGE;
 }
 
-static int perform(const struct operation *o, uint64_t base, struct tuple *t, uint8_t *work, struct undo *u)
+static int alter(const struct operation *o, struct table *t, size_t f, struct work *w, struct undo *u)
+{
+    struct span made;
+    int refusal = o->mark == ':' ? splice(o, t, f, w, &made) : number(o, t, f, w, &made);
+    if (refusal != DONE)
+        return refusal;
+    lay_inverse(u, t, '=', f, 1);
+    exchange(t, f, made, WORK);
+    w->used += left(made);
+    return DONE;
+}
+
+/* = and !, which take their argument as it stands in the list. */
+static int assign(const struct operation *o, struct table *t, size_t f, struct undo *u)
+{
+    bool there = o->mark == '=' && f < t->fields;
+    size_t gone = there ? field_at(t, f)->n : 0;
+    if (!fits(t->fields + !there, t->bytes - gone + left(o->bytes)))
+        return TOO_LARGE;
+    lay_inverse(u, t, '=', f, there);
+    if (there)
+        exchange(t, f, o->bytes, LIST);
+    else
+        put_in(t, f, o->bytes, LIST);
+    return DONE;
+}
+
+static int delete (const struct operation *o, struct table *t, size_t f, struct undo *u)
+{
+    size_t gone = o->number.low < t->fields - f ? o->number.low : t->fields - f;
+    lay_inverse(u, t, '#', f, gone);
+    take_out(t, f, gone);
+    return DONE;
+}
+
+static int perform(const struct operation *o, uint64_t base, struct table *t, struct work *w, struct undo *u)
 {
     if (o->field.negative || o->field.low < base)
         return NO_FIELD;
     uint64_t f = o->field.low - base;
     if (f > t->fields || (f == t->fields && o->mark != '=' && o->mark != '!'))
         return NO_FIELD;
-    if (o->mark == '=' || o->mark == '!') {
-        size_t gone = o->mark == '=' && f < t->fields;
-        lay_inverse(u, t, o->mark, f, gone);
-        return replace(t, f, gone, o->bytes.at, left(o->bytes));
-    }
-    if (o->mark == '#') {
-        size_t gone = o->number.low < t->fields - f ? o->number.low : t->fields - f;
-        lay_inverse(u, t, o->mark, f, gone);
-        return replace(t, f, gone, NULL, 0);
-    }
-    return alter(o, t, f, work, u);
+    if (o->mark == '=' || o->mark == '!')
+        return assign(o, t, f, u);
+    return o->mark == '#' ? delete (o, t, f, u) : alter(o, t, f, w, u);
 }
+
+/* ---- the calls ---- */
 
 static struct plain_answer refused(int number, size_t operation)
 {
-    struct plain_answer a = { (uint32_t)number, (uint32_t)operation, 0 };
+    struct plain_answer a = {(uint32_t)number, (uint32_t)operation, 0};
     return a;
 }
 
-static struct plain_answer run(struct span tuple, struct span list, uint64_t base, struct tuple *t,
-                               struct undo *u)
+/* Each operation is read and performed in one turn; after a refused one the rest of the list is judged only. */
+static struct plain_answer run_list(struct span s, uint64_t base, struct table *t, struct work *w, struct undo *u)
 {
-    struct operation operations[MAX_OPERATIONS];
-    uint8_t work[MAX_TUPLE];
-    size_t count;
-    if (!take_tuple(tuple, t))
-        return refused(BAD_TUPLE, 0);
-    if (!take_list(list, base, operations, &count))
+    uint64_t count;
+    size_t last = 0;
+    int refusal = DONE;
+    if (base > 1 || left(s) > MAX_LIST || !take_array(&s, &count) || count > MAX_OPERATIONS)
         return refused(BAD_LIST, 0);
     for (size_t i = 0; i < count; i++) {
-        int number = perform(&operations[i], base, t, work, u);
-        if (number != DONE)
-            return refused(number, i);
+        struct operation o;
+        if (!take_operation(&s, &o, base))
+            return refused(BAD_LIST, 0);
+        if (refusal != DONE)
+            continue;
+        last = i;
+        refusal = perform(&o, base, t, w, u);
     }
-    return refused(DONE, 0);
+    return s.at != s.end ? refused(BAD_LIST, 0) : refused(refusal, refusal == DONE ? 0 : last);
 }
 
-static struct plain_answer deliver(size_t count, const uint8_t *values, size_t n, uint8_t *out, size_t room)
+static struct plain_answer run(struct span tuple, struct span list, uint64_t base, struct table *t, struct work *w,
+                               struct undo *u)
 {
-    struct plain_answer a = { DONE, 0, array_header_length(count) + n };
-    if (room < a.length)
-        return refused(SHORT_BUFFER, 0);
-    memcpy(out + put_array_header(out, count), values, n);
-    return a;
+    w->used = w->spare = 0;
+    if (u)
+        u->operations = u->bytes = 0;
+    return take_tuple(tuple, t) ? run_list(list, base, t, w, u) : refused(BAD_TUPLE, 0);
+}
+
+static size_t write_tuple(struct table *t, uint8_t *out)
+{
+    size_t header = put_array_header(out, t->fields);
+    gather(t, out + header);
+    return header + t->bytes;
+}
+
+/* What was done last is taken back first. */
+static size_t write_undo(const struct undo *u, uint8_t *out)
+{
+    uint8_t *at = out + put_array_header(out, u->operations);
+    for (size_t i = u->operations; i-- > 0;) {
+        const struct entry *e = &u->entries[i];
+        const uint8_t opening[4] = {0x93, 0xa1, e->mark, e->f};
+        at = put_bytes(at, opening, sizeof opening);
+        at = put_bytes(at, e->old.at, e->old.n);
+    }
+    return (size_t)(at - out);
 }
 
 struct plain_answer plain_update(const uint8_t *tuple, size_t n, const uint8_t *list, size_t m, uint64_t base,
                                  uint8_t *out, size_t room)
 {
-    struct tuple t;
-    struct span from = { tuple, tuple + n }, by = { list, list + m };
-    struct plain_answer a = run(from, by, base, &t, NULL);
-    return a.number ? a : deliver(t.fields, t.data, t.bytes, out, room);
+    struct table t;
+    struct work w;
+    struct span from = {tuple, tuple + n}, by = {list, list + m};
+    struct plain_answer a = run(from, by, base, &t, &w, NULL);
+    if (a.number)
+        return a;
+    if (room < array_header_length(t.fields) + t.bytes)
+        return refused(SHORT_BUFFER, 0);
+    a.length = write_tuple(&t, out);
+    return a;
 }
 
 struct plain_answer plain_undo(const uint8_t *tuple, size_t n, const uint8_t *list, size_t m, uint64_t base,
                                uint8_t *out, size_t room)
 {
-    struct tuple t;
+    struct table t;
+    struct work w;
     struct undo u;
-    struct span from = { tuple, tuple + n }, by = { list, list + m };
-    u.operations = u.bytes = 0;
-    u.full = false;
-    struct plain_answer a = run(from, by, base, &t, &u);
+    struct span from = {tuple, tuple + n}, by = {list, list + m};
+    struct plain_answer a = run(from, by, base, &t, &w, &u);
     if (a.number)
         return a;
-    if (u.operations > MAX_OPERATIONS || u.full || array_header_length(u.operations) + u.bytes > MAX_LIST)
+    if (too_long(&u))
         return refused(LONG_UNDO, 0);
-    return deliver(u.operations, u.data + MAX_LIST - u.bytes, u.bytes, out, room);
+    if (room < array_header_length(u.operations) + u.bytes)
+        return refused(SHORT_BUFFER, 0);
+    a.length = write_undo(&u, out);
+    return a;
+}
+
+static struct plain_press_answer press_refused(struct plain_answer a)
+{
+    struct plain_press_answer p = {a.number, a.operation, 0, 0};
+    return p;
+}
+
+struct plain_press_answer plain_press(const uint8_t *tuple, size_t n, const uint8_t *list, size_t m, uint64_t base,
+                                      uint8_t *out, size_t room, uint8_t *undo, size_t undo_room)
+{
+    struct table t;
+    struct work w;
+    struct undo u;
+    struct span from = {tuple, tuple + n}, by = {list, list + m};
+    struct plain_answer a = run(from, by, base, &t, &w, &u);
+    struct plain_press_answer p = press_refused(a);
+    if (a.number)
+        return p;
+    if (too_long(&u))
+        return press_refused(refused(LONG_UNDO, 0));
+    if (room < array_header_length(t.fields) + t.bytes || undo_room < array_header_length(u.operations) + u.bytes)
+        return press_refused(refused(SHORT_BUFFER, 0));
+    p.length = write_tuple(&t, out);
+    p.undo_length = write_undo(&u, undo);
+    return p;
 }

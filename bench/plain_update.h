@@ -13,9 +13,16 @@ struct plain_answer {
     uint64_t length;
 };
 
+struct plain_press_answer {
+    uint32_t number, operation;
+    uint64_t length, undo_length;
+};
+
 struct plain_answer plain_update(const uint8_t *tuple, size_t n, const uint8_t *list, size_t m, uint64_t base,
                                  uint8_t *out, size_t room);
 struct plain_answer plain_undo(const uint8_t *tuple, size_t n, const uint8_t *list, size_t m, uint64_t base,
                                uint8_t *out, size_t room);
+struct plain_press_answer plain_press(const uint8_t *tuple, size_t n, const uint8_t *list, size_t m, uint64_t base,
+                                      uint8_t *out, size_t room, uint8_t *undo, size_t undo_room);
 
 #endif

@@ -376,3 +376,22 @@ void deep_list_sample(struct sample *s, size_t operations)
         }
     }
 }
+
+void long_tuple_sample(struct sample *s, size_t bytes)
+{
+    s->n = 0;
+    put_array(s, 1);
+    put_letters(s, bytes - 4);
+}
+
+void splices_sample(struct sample *s, size_t operations)
+{
+    s->n = 0;
+    put_array(s, operations);
+    for (size_t i = 0; i < operations; i++) {
+        put_operation(s, ':', 0);
+        put_unsigned(s, 1 + i);
+        put_unsigned(s, 1);
+        put_letters(s, 1);
+    }
+}

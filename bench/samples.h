@@ -39,5 +39,7 @@ void tuple_sample(struct sample *s, struct shape shape);
 void list_sample(struct sample *s, struct shape shape, size_t operations);
 void deep_tuple_sample(struct sample *s, size_t bytes);     /* with a field as deep as a field may be */
 void deep_list_sample(struct sample *s, size_t operations); /* its arguments as deep as that too */
+void long_tuple_sample(struct sample *s, size_t bytes);     /* of one string */
+void splices_sample(struct sample *s, size_t operations);   /* of that string, which stays as long */
 
 #endif

@@ -5,14 +5,15 @@
  *
  * What holds of every call, for all bytes, however damaged:
  *   - It ends and answers. `number` is 0 (LAK_OK), or the number of the one refusal that is due.
- *   - Refused: everything else in the answer is 0 and `out` keeps its bytes. Only 13 to 16 also
- *     give `operation`, the index from 0 of the operation that was refused, and only 4, 11 and 12
- *     may give `place`, where a value broke: see below. A feed's answer has more, and its carry
- *     buffer one change: see lak_session_feed.
- *   - Accepted: `length` bytes were written or read. Bytes of `out` past them are unchanged.
+ *   - Refused: everything else in the answer is 0, and `out` and a press's `undo` keep their bytes.
+ *     Only 13 to 16 also give `operation`, the index from 0 of the operation that was refused, and
+ *     only 4, 11 and 12 may give `place`, where a value broke: see below. A feed's answer has more,
+ *     and its carry buffer one change: see lak_session_feed.
+ *   - Accepted: `length` bytes were written or read, of a press's undo list `undo_length`. Bytes of
+ *     `out` and `undo` past them are unchanged.
  *   - Nothing is kept between calls, no memory is allocated, and no other memory is written; so
- *     any thread may call. Stack, measured: lak_undo 81 KB, lak_update 42 KB, lak_frame_read and
- *     lak_session_feed 7 KB; the others less than 4 KB.
+ *     any thread may call. Stack, measured: lak_undo and lak_press 130 KB, lak_update 74 KB,
+ *     lak_frame_read and lak_session_feed 8 KB; the others less than 4 KB.
  *
  * `place` is where a value broke: the first byte that spoils it. That is an unused first byte (c1),
  * the array or map that goes one too deep, or the end of the bytes where more were due, whichever
@@ -25,9 +26,10 @@
  * the list; lak_frame_write gives no place.
  *
  * What the caller owes, since C cannot ask for it and the proofs assume it:
- *   - A pointer is valid for the length beside it: inputs to be read, `out` and a feed's `carry`
- *     to be written.
- *   - `out` overlaps no input, and `carry` no piece. Inputs may overlap one another.
+ *   - A pointer is valid for the length beside it: inputs to be read, `out`, a press's `undo` and a
+ *     feed's `carry` to be written.
+ *   - `out` and `undo` overlap no input and not one another, and `carry` no piece. Inputs may
+ *     overlap one another.
  *   - No other thread writes the lent bytes during the call.
  *   - `present` in a frame or session is true or false and not another byte; memset to 0 is an
  *     empty frame.
@@ -102,7 +104,8 @@ enum lak_kind {
     LAK_KIND_MAP = 10
 };
 
-/* The longest that each call writes: an `out` of this size is never refused with 18. */
+/* The longest that each call writes: an `out` of this size is never refused with 18, nor is a press
+ * with LAK_TUPLE_ROOM of `out` and LAK_UNDO_ROOM of `undo`. */
 enum lak_room { LAK_FRAME_ROOM = 60005, LAK_TUPLE_ROOM = 16384, LAK_UNDO_ROOM = 32768 };
 
 /* What a carry buffer has at least: the longest frame, nine bytes of size number and 60,000. */
@@ -188,6 +191,15 @@ typedef struct {
     lak_number place;
 } lak_answer;
 
+/* What a press answers: the length of the new tuple, and that of its undo list. */
+typedef struct {
+    uint32_t number;
+    uint32_t operation;
+    uint64_t length;
+    uint64_t undo_length;
+    lak_number place;
+} lak_press_answer;
+
 /* What reading a value answers.
  *   length       of the whole value
  *   kind         an enum lak_kind
@@ -252,6 +264,14 @@ lak_answer lak_update(const uint8_t *tuple, size_t n, const uint8_t *list, size_
  * Refuses as lak_update does, with 17 before 18. */
 lak_answer lak_undo(const uint8_t *tuple, size_t n, const uint8_t *list, size_t m, uint64_t index_base, uint8_t *out,
                     size_t room);
+
+/* Both in one run, for a box that keeps the undo list of each press: the new tuple into `out` as
+ * lak_update writes it, its undo list into `undo` as lak_undo does. A press goes in whole or not at
+ * all: refused, neither buffer is changed. Refuses: 11, 12, then for each operation 13, 14, 15, 16;
+ * then 17; then 18 where either buffer is too short. Without an undo list, lak_update is quicker and
+ * does not ask for 17. */
+lak_press_answer lak_press(const uint8_t *tuple, size_t n, const uint8_t *list, size_t m, uint64_t index_base,
+                           uint8_t *out, size_t room, uint8_t *undo, size_t undo_room);
 
 /* A refusal's words for people. */
 static inline const char *lak_words(uint32_t number)

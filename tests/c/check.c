@@ -15,6 +15,9 @@ HOLDS(frame_answer, sizeof(lak_frame_answer) == 32 + sizeof(lak_frame) && offset
 HOLDS(frame_answer_place, offsetof(lak_frame_answer, place) == 16 + sizeof(lak_frame));
 HOLDS(answer, sizeof(lak_answer) == 32 && offsetof(lak_answer, operation) == 4 && offsetof(lak_answer, length) == 8);
 HOLDS(answer_place, offsetof(lak_answer, place) == 16);
+HOLDS(press_answer, sizeof(lak_press_answer) == 40 && offsetof(lak_press_answer, operation) == 4);
+HOLDS(press_lengths, offsetof(lak_press_answer, length) == 8 && offsetof(lak_press_answer, undo_length) == 16);
+HOLDS(press_place, offsetof(lak_press_answer, place) == 24);
 HOLDS(value_answer, sizeof(lak_value_answer) == 64 && offsetof(lak_value_answer, kind) == 4);
 HOLDS(value_fields, offsetof(lak_value_answer, bits) == 16 && offsetof(lak_value_answer, ext_type) == 40);
 HOLDS(value_place, offsetof(lak_value_answer, place) == 48);
@@ -22,22 +25,28 @@ HOLDS(ext_type, sizeof(((lak_value_answer *)0)->ext_type) == 1);
 
 /* ---- help */
 
-static bytes first, second, wanted;
-static uint8_t out[70000];
+static bytes first, second, wanted, wanted_undo;
+static uint8_t out[70000], undo_out[70000];
 
 static void fresh(void)
 {
     memset(out, 0x5a, sizeof out);
+    memset(undo_out, 0x5a, sizeof undo_out);
 }
 
-/* Whether `out` holds these bytes, and past them what it held before. */
-static bool holds_only(const bytes *b)
+/* Whether a lent buffer of 70,000 bytes holds these, and past them what it held before. */
+static bool holds_these(const uint8_t *lent, const bytes *b)
 {
     size_t i;
     for (i = b->n; i < sizeof out; i++)
-        if (out[i] != 0x5a)
+        if (lent[i] != 0x5a)
             return false;
-    return memcmp(out, b->at, b->n) == 0;
+    return memcmp(lent, b->at, b->n) == 0;
+}
+
+static bool holds_only(const bytes *b)
+{
+    return holds_these(out, b);
 }
 
 /* Whether the call answered so, with these bytes in `out`; refused, with length 0 and no byte changed. No value broke.
@@ -47,6 +56,15 @@ static bool gave(lak_answer a, uint32_t number, uint32_t operation, const char *
     hex(&wanted, number == LAK_OK ? text : "");
     return a.number == number && a.operation == operation && a.length == wanted.n && no_number(a.place) &&
            holds_only(&wanted);
+}
+
+/* The same of a press: these bytes in its two buffers, or none. */
+static bool pressed(lak_press_answer a, uint32_t number, uint32_t operation, const char *text, const char *undo)
+{
+    hex(&wanted, number == LAK_OK ? text : "");
+    hex(&wanted_undo, number == LAK_OK ? undo : "");
+    return a.number == number && a.operation == operation && a.length == wanted.n && a.undo_length == wanted_undo.n &&
+           no_number(a.place) && holds_these(out, &wanted) && holds_these(undo_out, &wanted_undo);
 }
 
 /* Whether the call was refused so, with this place. */
@@ -415,6 +433,39 @@ static void check_updates(void)
     }
 }
 
+/* A press of `first` by `second`, with so much room. */
+static lak_press_answer press(uint64_t base, size_t room, size_t undo_room)
+{
+    fresh();
+    return lak_press(first.at, first.n, second.at, second.n, base, out, room, undo_out, undo_room);
+}
+
+/* With ample room and with exactly enough; with one byte less for either or both, neither buffer is changed. */
+static void check_presses(void)
+{
+    size_t i;
+    for (i = 0; i < sizeof updates / sizeof updates[0]; i++) {
+        const update_case *u = &updates[i];
+        const uint32_t or_18 = u->number ? u->number : (uint32_t)LAK_SHORT_BUFFER;
+        size_t n, m;
+        hex(&first, u->tuple);
+        hex(&second, u->list);
+        hex(&wanted, u->after);
+        hex(&wanted_undo, u->undo);
+        n = wanted.n;
+        m = wanted_undo.n;
+        expect(pressed(press(u->base, LAK_TUPLE_ROOM, LAK_UNDO_ROOM), u->number, u->operation, u->after, u->undo),
+               "lak_press", u->tuple);
+        expect(pressed(press(u->base, n, m), u->number, u->operation, u->after, u->undo), "lak_press, exact room",
+               u->tuple);
+        expect(pressed(press(u->base, n - (n > 0), LAK_UNDO_ROOM), or_18, u->operation, "", ""), "lak_press, short out",
+               u->tuple);
+        expect(pressed(press(u->base, LAK_TUPLE_ROOM, m - (m > 0)), or_18, u->operation, "", ""),
+               "lak_press, short undo", u->tuple);
+        expect(pressed(press(u->base, 0, 0), or_18, u->operation, "", ""), "lak_press, no room", u->tuple);
+    }
+}
+
 /* Each update that went in is taken back to the old fields. */
 static void check_taking_back(void)
 {
@@ -451,10 +502,13 @@ static void check_64_fields(void)
     fresh();
     expect(gave(lak_update(first.at, first.n, second.at, second.n, 0, out, LAK_TUPLE_ROOM), LAK_TOO_LARGE, 0, ""),
            "lak_update", "65 fields");
+    expect(pressed(press(0, LAK_TUPLE_ROOM, LAK_UNDO_ROOM), LAK_TOO_LARGE, 0, "", ""), "lak_press", "65 fields");
     hex(&second, "92 93 a1 23 00 40 93 a1 21 00 01");
     fresh();
     expect(gave(lak_undo(first.at, first.n, second.at, second.n, 0, out, LAK_UNDO_ROOM), LAK_LONG_UNDO, 0, ""),
            "lak_undo", "65 operations");
+    expect(pressed(press(0, LAK_TUPLE_ROOM, LAK_UNDO_ROOM), LAK_LONG_UNDO, 0, "", ""), "lak_press", "65 operations");
+    expect(pressed(press(0, 0, 0), LAK_LONG_UNDO, 0, "", ""), "lak_press", "17 before 18");
     fresh();
     expect(gave(lak_update(first.at, first.n, second.at, second.n, 0, out, LAK_TUPLE_ROOM), LAK_OK, 0, "91 01"),
            "lak_update", "whose undo list is too long");
@@ -500,9 +554,14 @@ static const broken_case broken[] = {
     {"91 01", "90", 7, LAK_BAD_LIST, NONE},
 };
 
-/* Both calls on `first` and `second`. */
+/* The three calls on `first` and `second`. */
 static void breaks(uint64_t base, uint32_t number, lak_number place, const char *what)
 {
+    lak_press_answer a = press(base, LAK_TUPLE_ROOM, LAK_UNDO_ROOM);
+    hex(&wanted, "");
+    expect(a.number == number && a.operation == 0 && a.length == 0 && a.undo_length == 0 &&
+               same_number(a.place, place) && holds_these(out, &wanted) && holds_these(undo_out, &wanted),
+           "lak_press, place", what);
     fresh();
     expect(broke(lak_update(first.at, first.n, second.at, second.n, base, out, LAK_TUPLE_ROOM), number, place),
            "lak_update, place", what);
@@ -578,6 +637,8 @@ static void check_longest_tuple(void)
     fresh();
     expect(lak_update(first.at, first.n, second.at, second.n, 0, out, LAK_TUPLE_ROOM).length == LAK_TUPLE_ROOM,
            "lak_update", "longest");
+    expect(press(0, LAK_TUPLE_ROOM, 1).length == LAK_TUPLE_ROOM && undo_out[0] == 0x90, "lak_press", "longest");
+    expect(pressed(press(0, LAK_TUPLE_ROOM - 1, 1), LAK_SHORT_BUFFER, 0, "", ""), "lak_press", "longest, short");
     filled(&first, "91 c5 3f fd", 16385);
     fresh();
     expect(gave(lak_update(first.at, first.n, second.at, second.n, 0, out, LAK_TUPLE_ROOM), LAK_BAD_TUPLE, 0, ""),
@@ -598,9 +659,16 @@ static lak_answer long_undo(const char *list, size_t n)
 
 static void check_longest_undo(void)
 {
+    lak_press_answer a;
     expect(long_undo("92 93 a1 3d 00 c5 3f f5", 5 + 16376).length == LAK_UNDO_ROOM, "lak_undo", "longest");
+    a = press(0, LAK_TUPLE_ROOM, LAK_UNDO_ROOM);
+    expect(a.number == LAK_OK && a.length == 2 && a.undo_length == LAK_UNDO_ROOM, "lak_press", "longest undo list");
+    expect(pressed(press(0, LAK_TUPLE_ROOM, LAK_UNDO_ROOM - 1), LAK_SHORT_BUFFER, 0, "", ""), "lak_press",
+           "longest undo list, short");
     expect(gave(long_undo("92 93 a1 3d 00 c5 3f f6", 5 + 16377), LAK_LONG_UNDO, 0, ""), "lak_undo",
            "one byte too long");
+    expect(pressed(press(0, LAK_TUPLE_ROOM, LAK_UNDO_ROOM), LAK_LONG_UNDO, 0, "", ""), "lak_press",
+           "an undo list one byte too long");
 }
 
 /* ---- a null pointer with length 0, and the words */
@@ -623,6 +691,10 @@ static void check_null(void)
     expect(lak_update(first.at, 2, second.at, 1, 0, NULL, 0).number == LAK_SHORT_BUFFER, "lak_update", "NULL out");
     expect(lak_undo(NULL, 0, NULL, 0, 0, NULL, 0).number == LAK_BAD_TUPLE, "lak_undo", "NULL tuple");
     expect(lak_undo(first.at, 2, second.at, 1, 0, NULL, 0).number == LAK_SHORT_BUFFER, "lak_undo", "NULL out");
+    expect(lak_press(NULL, 0, NULL, 0, 0, NULL, 0, NULL, 0).number == LAK_BAD_TUPLE, "lak_press", "NULL tuple");
+    expect(lak_press(first.at, 2, NULL, 0, 0, NULL, 0, NULL, 0).number == LAK_BAD_LIST, "lak_press", "NULL list");
+    expect(lak_press(first.at, 2, second.at, 1, 0, NULL, 0, NULL, 0).number == LAK_SHORT_BUFFER, "lak_press",
+           "NULL out and undo");
 }
 
 static void check_words(void)
@@ -652,6 +724,7 @@ int main(void)
     check_left_out();
     check_select_by_hand();
     check_updates();
+    check_presses();
     check_taking_back();
     check_64_fields();
     check_broken();

@@ -22,13 +22,14 @@ CALLS = {
     "f": frame_cases.answer,
     "w": frame_cases.answer,
     "u": update_cases.answer,
+    "p": update_cases.answer,
     "l": listing_cases.answer,
     "s": session_cases.answer,
 }
 
 
 # how many fields of a line say what the call is given; words follow
-GIVEN = {"v": 2, "f": 2, "w": 4, "u": 5, "l": 2, "s": 6}
+GIVEN = {"v": 2, "f": 2, "w": 4, "u": 5, "p": 6, "l": 2, "s": 6}
 
 
 def given(line):

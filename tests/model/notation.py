@@ -20,7 +20,11 @@ def unpacked(text):
     return bytes(out)
 
 
+def total(written, room):
+    """The sum of a lent buffer that held 5a in every byte."""
+    return "%08x" % zlib.adler32(written + b"\x5a" * (room - len(written)))
+
+
 def shown(written, room):
-    """What is printed of a lent buffer that held 5a in every byte: the sum of it all, and the first bytes written."""
-    buffer = written + b"\x5a" * (room - len(written))
-    return "%08x\t%s" % (zlib.adler32(buffer), written[:48].hex())
+    """What is printed of such a buffer: the sum of it all, and the first bytes written."""
+    return "%s\t%s" % (total(written, room), written[:48].hex())

@@ -4,6 +4,7 @@ library.
 
   update(tuple, list, base, room) -> (number, operation, bytes, place)
   undo(tuple, list, base, room)   -> (number, operation, bytes, place)
+  press(tuple, list, base, room, undo room) -> (number, operation, tuple's bytes, undo list's bytes, place)
 A place is that of the byte that spoils the tuple (11) or the list (12), or None.
 """
 from frames import shortest
@@ -231,3 +232,18 @@ def undo(t, s, base, room):
     if len(back) > MAX_OPERATIONS or len(u) > MAX_LIST:
         return 17, 0, b"", None
     return deliver(u, room)
+
+
+def press(t, s, base, room, undo_room):
+    """Both or neither: "11, 12, per operation 13 to 16, then 17, then 18 for either buffer"."""
+    try:
+        fields, back = run(t, s, base)
+    except Refused as refused:
+        number, operation, _, place = refusal(refused, t, s)
+        return number, operation, b"", b"", place
+    w, u = plain(fields), undo_list(back)
+    if len(back) > MAX_OPERATIONS or len(u) > MAX_LIST:
+        return 17, 0, b"", b"", None
+    if len(w) > room or len(u) > undo_room:
+        return 18, 0, b"", b"", None
+    return 0, 0, w, u, None

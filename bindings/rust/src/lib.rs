@@ -3,23 +3,22 @@
 //! all input.
 //!
 //! Slices go in; enums, structs and lengths come out. A refusal is an [`Error`] with its number and, where a value broke,
-//! its place, and leaves every byte of the lent buffer as it was. After an accepted call, bytes past the written length
+//! its place, and leaves every byte of the lent buffers as it was. After an accepted call, bytes past the written length
 //! are unchanged. The functions keep nothing between calls and allocate nothing, so any thread may call; the deepest,
-//! [`undo`], takes 81 KB of stack. A [`Session`] is fed bytes as they come, and keeps a frame that is begun in a buffer of
-//! its own.
+//! [`undo`] and [`press`], take 130 KB of stack. A [`Session`] is fed bytes as they come, and keeps a frame that is begun
+//! in a buffer of its own.
 //!
-//! A press arrives: `^` with 1 on field 0. The update writes the new tuple, the undo call writes the list that takes it
-//! back, and an update with that list gives the old bytes again:
+//! A press arrives: `^` with 1 on field 0. [`press`] writes the new tuple and the list that takes it back, and an update
+//! with that list gives the old bytes again:
 //!
 //! ```
 //! # fn main() -> Result<(), laksubinat::Error> {
 //! let tuple = [0x93, 0x05, 0xa2, b'a', b'b', 0xc3]; // [5, "ab", true]
-//! let press = [0x91, 0x93, 0xa1, b'^', 0x00, 0x01]; // [["^", 0, 1]]
+//! let list = [0x91, 0x93, 0xa1, b'^', 0x00, 0x01]; // [["^", 0, 1]]
 //!
 //! let mut after = [0; laksubinat::TUPLE_ROOM];
 //! let mut back = [0; laksubinat::UNDO_ROOM];
-//! let n = laksubinat::update(&tuple, &press, 0, &mut after)?;
-//! let m = laksubinat::undo(&tuple, &press, 0, &mut back)?;
+//! let (n, m) = laksubinat::press(&tuple, &list, 0, &mut after, &mut back)?;
 //! assert_eq!(after[..n], [0x93, 0x04, 0xa2, b'a', b'b', 0xc3]);
 //! assert_eq!(back[..m], [0x91, 0x93, 0xa1, b'=', 0x00, 0x05]);
 //!
@@ -45,9 +44,9 @@ pub use value::Value;
 
 /// The longest that [`write_frame`] writes: a buffer of this length is never refused with 18.
 pub const FRAME_ROOM: usize = 60_005;
-/// The longest that [`update`] writes.
+/// The longest tuple that [`update`] and [`press`] write.
 pub const TUPLE_ROOM: usize = 16_384;
-/// The longest that [`undo`] writes.
+/// The longest list that [`undo`] and [`press`] write.
 pub const UNDO_ROOM: usize = 32_768;
 /// The longest frame that is read, nine bytes of size number and 60,000: a [`Session`]'s carry buffer has this length.
 pub const CARRY_ROOM: usize = 60_009;
@@ -171,6 +170,40 @@ pub fn update(tuple: &[u8], list: &[u8], index_base: u64, out: &mut [u8]) -> Res
 /// ```
 pub fn undo(tuple: &[u8], list: &[u8], index_base: u64, out: &mut [u8]) -> Result<usize, Error> {
     changed(raw::lak_undo, tuple, list, index_base, out)
+}
+
+/// Writes both in one run, for a box that keeps the undo list of each press: the tuple that [`update`] writes into `out`,
+/// and the list that [`undo`] writes into `undo`; answers how many bytes each has.
+///
+/// A press goes in whole or not at all: refused, neither buffer is changed. Refused with 11, 12, then for each operation 13
+/// to 16, then 17, then 18 where either buffer is too short.
+///
+/// ```
+/// # fn main() -> Result<(), laksubinat::Error> {
+/// let tuple = [0x92, 0x01, 0x02]; // [1, 2]
+/// let list = [0x91, 0x93, 0xa1, b'#', 0x01, 0x01]; // [["#", 1, 1]]
+/// let (mut out, mut undo) = ([0; laksubinat::TUPLE_ROOM], [0; laksubinat::UNDO_ROOM]);
+/// let (n, m) = laksubinat::press(&tuple, &list, 0, &mut out, &mut undo)?;
+/// assert_eq!(out[..n], [0x91, 0x01]);
+/// assert_eq!(undo[..m], [0x91, 0x93, 0xa1, b'!', 0x01, 0x02]); // [["!", 1, 2]]
+///
+/// let mut short = [0; 5]; // one byte too few for the undo list
+/// let mut kept = [7; laksubinat::TUPLE_ROOM];
+/// let error = laksubinat::press(&tuple, &list, 0, &mut kept, &mut short).unwrap_err();
+/// assert_eq!((error.number(), kept[0]), (18, 7));
+/// # Ok(())
+/// # }
+/// ```
+pub fn press(tuple: &[u8], list: &[u8], index_base: u64, out: &mut [u8], undo: &mut [u8]) -> Result<(usize, usize), Error> {
+    let (n, m, room, undo_room) = (tuple.len(), list.len(), out.len(), undo.len());
+    let (out, undo) = (out.as_mut_ptr(), undo.as_mut_ptr());
+    // SAFETY: each pointer and length are those of a slice; the call stays within them, and both buffers are lent to it
+    // alone, so they do not overlap.
+    let answer = unsafe { raw::lak_press(tuple.as_ptr(), n, list.as_ptr(), m, index_base, out, room, undo, undo_room) };
+    match answer.number {
+        0 => Ok((answer.length as usize, answer.undo_length as usize)),
+        number => Err(Error::new(number, answer.operation, answer.place)),
+    }
 }
 
 type Change = unsafe extern "C" fn(*const u8, usize, *const u8, usize, u64, *mut u8, usize) -> raw::Answer;

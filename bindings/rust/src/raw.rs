@@ -122,6 +122,22 @@ pub struct Answer {
     pub place: Number,
 }
 
+/// The answer of [`lak_press`].
+#[repr(C)]
+#[derive(Clone, Copy, Debug, Default, PartialEq, Eq)]
+pub struct PressAnswer {
+    /// The refusal's number, 0 where accepted.
+    pub number: u32,
+    /// For 13 to 16 the index of the refused operation, else 0.
+    pub operation: u32,
+    /// How many bytes the new tuple has, 0 where refused.
+    pub length: u64,
+    /// How many bytes the undo list has, 0 where refused.
+    pub undo_length: u64,
+    /// Of 11 where the tuple broke, of 12 where the list broke, counted from its first byte; else absent.
+    pub place: Number,
+}
+
 /// The answer of [`lak_value_read`].
 #[repr(C)]
 #[derive(Clone, Copy, Debug, Default, PartialEq, Eq)]
@@ -147,7 +163,7 @@ pub struct ValueAnswer {
 
 // The sizes that a C compiler gives them on x86-64.
 const _: () = assert!(size_of::<Frame>() == 328 && size_of::<FrameAnswer>() == 360);
-const _: () = assert!(size_of::<Answer>() == 32 && size_of::<ValueAnswer>() == 64);
+const _: () = assert!(size_of::<Answer>() == 32 && size_of::<PressAnswer>() == 40 && size_of::<ValueAnswer>() == 64);
 const _: () = assert!(size_of::<Session>() == 40 && size_of::<SessionOpening>() == 48 && size_of::<SessionAnswer>() == 416);
 
 extern "C" {
@@ -183,4 +199,16 @@ extern "C" {
         out: *mut u8,
         room: usize,
     ) -> Answer;
+    /// Writes both, the tuple and the undo list, or neither.
+    pub fn lak_press(
+        tuple: *const u8,
+        n: usize,
+        list: *const u8,
+        m: usize,
+        index_base: u64,
+        out: *mut u8,
+        room: usize,
+        undo: *mut u8,
+        undo_room: usize,
+    ) -> PressAnswer;
 }

@@ -1,6 +1,6 @@
 //! The crate says what the C header says.
 
-use laksubinat::raw::{self, Answer, Frame, FrameAnswer, Session, SessionAnswer, SessionOpening, ValueAnswer};
+use laksubinat::raw::{self, Answer, Frame, FrameAnswer, PressAnswer, Session, SessionAnswer, SessionOpening, ValueAnswer};
 use laksubinat::{CARRY_ROOM, FRAME_ROOM, TUPLE_ROOM, UNDO_ROOM};
 use std::mem::offset_of;
 
@@ -38,6 +38,45 @@ fn places_are_laid_out_as_in_c() {
     assert_eq!([offset_of!(FrameAnswer, frame), offset_of!(FrameAnswer, place)], [16, 16 + size_of::<Frame>()]);
     assert_eq!([offset_of!(Answer, operation), offset_of!(Answer, length), offset_of!(Answer, place)], [4, 8, 16]);
     assert_eq!([offset_of!(raw::Number, present), offset_of!(raw::Number, value)], [0, 8]);
+}
+
+#[test]
+fn presses_are_laid_out_as_in_c() {
+    assert_eq!([offset_of!(PressAnswer, number), offset_of!(PressAnswer, operation)], [0, 4]);
+    assert_eq!([offset_of!(PressAnswer, length), offset_of!(PressAnswer, undo_length)], [8, 16]);
+    assert_eq!([offset_of!(PressAnswer, place), size_of::<PressAnswer>()], [24, 40]);
+}
+
+/// A press of `[5, "ab", true]` by `[["^", 0, 1]]` with so much room, and both buffers after it.
+fn press(room: usize, undo_room: usize) -> (Result<(usize, usize), laksubinat::Error>, Vec<u8>, Vec<u8>) {
+    let (tuple, list) = ([0x93, 0x05, 0xa2, b'a', b'b', 0xc3], [0x91, 0x93, 0xa1, b'^', 0x00, 0x01]);
+    let (mut out, mut undo) = (vec![0x5a; room], vec![0x5a; undo_room]);
+    let answer = laksubinat::press(&tuple, &list, 0, &mut out, &mut undo);
+    (answer, out, undo)
+}
+
+#[test]
+fn a_press_goes_in_whole_or_not_at_all() {
+    let (after, back) = ([0x93, 0x04, 0xa2, b'a', b'b', 0xc3], [0x91, 0x93, 0xa1, b'=', 0x00, 0x05]);
+    assert_eq!(press(6, 6), (Ok((6, 6)), after.to_vec(), back.to_vec()));
+    let (answer, out, undo) = press(8, 9);
+    assert_eq!((answer, &out[6..], &undo[6..]), (Ok((6, 6)), &[0x5a; 2][..], &[0x5a; 3][..]));
+    for (room, undo_room) in [(5, 6), (6, 5), (0, 6), (6, 0), (0, 0)] {
+        let (answer, out, undo) = press(room, undo_room);
+        assert_eq!(answer.map_err(|error| (error.number(), error.operation(), error.place())), Err((18, None, None)));
+        assert_eq!((out, undo), (vec![0x5a; room], vec![0x5a; undo_room]));
+    }
+}
+
+#[test]
+fn a_refused_press_says_why() {
+    let refused = |tuple: &[u8], list: &[u8]| laksubinat::press(tuple, list, 0, &mut [], &mut []).unwrap_err();
+    let error = refused(&[0x92, 0x01, 0xc1], &[0xc1]);
+    assert_eq!((error.number(), error.place()), (11, Some(2)));
+    let error = refused(&[0x90], &[0x90, 0xc1]);
+    assert_eq!((error.number(), error.place()), (12, None));
+    let error = refused(&[0x91, 0xc0], &[0x92, 0x93, 0xa1, b'=', 0, 0xa0, 0x93, 0xa1, b'+', 0, 1]);
+    assert_eq!((error.number(), error.operation()), (14, Some(1)));
 }
 
 #[test]

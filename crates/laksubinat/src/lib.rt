@@ -7,6 +7,7 @@ use sessions::Session;
 use sessions::SessionAnswer;
 use sessions::SessionOpening;
 use tuples::Answer;
+use tuples::PressAnswer;
 ghost use mathlib.Core.Path.{_≡_};
 ghost use mathlib.Core.List.{List};
 ghost use mathlib.Core.Option.{some};
@@ -19,8 +20,10 @@ ghost use Rattle.sessions.specs.Session.{fresh, opening, feedOf, carryOf};
 ghost use Rattle.sessions.specs.Cutting.{EveryCutting};
 ghost use Rattle.tuples.specs.Tuple.{Fields, fieldsOf};
 ghost use Rattle.tuples.specs.Call.{updateCall, undoCall};
+ghost use Rattle.tuples.specs.Press.{pressCall, GoesInAlike};
 ghost use Rattle.tuples.specs.Sequence.{Event, Demand3};
-ghost use Rattle.answers.specs.Seen.{seen};
+ghost use Rattle.update_answers.specs.Seen.{seen};
+ghost use Rattle.updates.specs.Telling.{pressSeen};
 ghost use Rattle.laksubinat.specs.Shown.{result};
 
 // The value at the front of `bytes`, held to depth 16; nothing past its end is judged.
@@ -98,10 +101,31 @@ pub extern "C" fn lak_undo(tuple: &[u8], list: &[u8], index_base: u64, out: &mut
     updates::undo(tuple, list, index_base, out)
 }
 
+// Both in one run: the new tuple into `out`, and what takes it back into `back`; or neither.
+#[no_mangle]
+pub extern "C" fn lak_press(
+    tuple: &[u8],
+    list: &[u8],
+    index_base: u64,
+    out: &mut [u8],
+    back: &mut [u8],
+) -> PressAnswer
+    ensures { λ r. ⌜ pressSeen r (now (out .exit)) (now (back .exit))
+        ≡ pressCall (now (tuple .entry)) (now (list .entry)) «index_base» (now (out .entry)) (now (back .entry)) ⌝ }
+{
+    updates::press(tuple, list, index_base, out, back)
+}
+
 // Demand 3, of `lak_update` and `lak_undo`, whose answers are `updateCall` and `undoCall`: in every
 // sequence of updates and takings back, what is taken back is the plain form of what was given.
 pub fn demand_3()
     ensures { λ _. ⌜ ((t : Bytes) (fs : Fields) (es : List Event) → fieldsOf t ≡ some fs → Demand3 t fs es) ⌝ }
+{}
+
+// Of `lak_press`, whose answer is `pressCall`: with room for the undo list it leaves the state that demand 3's
+// update leaves, so it answers 0 exactly where the update goes in.
+pub fn a_press_goes_in_exactly_where_the_update_does()
+    ensures { λ _. ⌜ GoesInAlike ⌝ }
 {}
 
 // Of `lak_session_feed`, whose answer is `feedOf` and whose carry buffer is `carryOf`: all ways of cutting the

@@ -1,19 +1,18 @@
 // The story of bay two on its own bytes: one press of the wash-mode button, an update frame with
 // `^`, arrives twice; the record after each, the undo lists beside them, and both presses taken
-// back. A press goes in only where the update and its undo list are both accepted; one is refused.
+// back. One call does a press: record and undo list, or neither; one press is refused.
 use libc::STDOUT_FILENO;
-use parts::bytes_of;
+use update_parts::bytes_of;
 
 const UPDATE: u64 = 0x04;
 
 // What a press came to: it went in, with the bytes written of the new record and of its undo list;
-// or the frame, its kind, the update or the undo list kept it out, with the refusal's number.
+// or the frame, its kind or the call kept it out, with the refusal's number.
 enum Press {
     In(usize, usize),
     NoFrame(u32),
     NoUpdate,
     Refused(u32, u32),
-    NoUndo(u32),
 }
 
 fn print(text: &[u8]) {
@@ -45,21 +44,15 @@ fn print_refusal(press: Press) {
         Press::NoFrame(n) => print_number(b"it stays out: no frame, refused with ", n),
         Press::NoUpdate => print(b"it stays out: the frame is no update"),
         Press::Refused(n, i) => {
-            print_number(b"it stays out: the update is refused with ", n);
+            print_number(b"it stays out: the press is refused with ", n);
             print_number(b" at operation ", i);
-        }
-        Press::NoUndo(n) => {
-            print_number(
-                b"it stays out: it could not be taken out, its undo list is refused with ",
-                n,
-            );
         }
     }
     print(b"\n");
 }
 
 // The frame arrives: its list is carried out on the record, and beside the new record the box
-// writes what takes it back. Where either is refused, the record stays what it is.
+// writes what takes it back; or nothing is written, and the record stays what it is.
 fn arrive(frame: &[u8], record: &[u8], after: &mut [u8], undo: &mut [u8]) -> Press {
     let read = frame_reading::read_frame(frame);
     if read.number != 0 {
@@ -71,15 +64,11 @@ fn arrive(frame: &[u8], record: &[u8], after: &mut [u8], undo: &mut [u8]) -> Pre
     let place = read.frame.tuple;
     let base = read.frame.index_base;
     let list = frame_fields::view_of(frame, place);
-    let updated = updates::update(record, list, base.value, after);
-    if updated.number != 0 {
-        return Press::Refused(updated.number, updated.operation);
+    let pressed = updates::press(record, list, base.value, after, undo);
+    if pressed.number != 0 {
+        return Press::Refused(pressed.number, pressed.operation);
     }
-    let undone = updates::undo(record, list, base.value, undo);
-    if undone.number != 0 {
-        return Press::NoUndo(undone.number);
-    }
-    Press::In(updated.length, undone.length)
+    Press::In(pressed.length, pressed.undo_length)
 }
 
 // The presses, and both taken back in the turn opposite to theirs; the record is in `last` then.

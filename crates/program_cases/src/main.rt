@@ -54,16 +54,36 @@ fn print_written(line: &[u8]) {
     frame_cases::print_write(record, bytes, out);
 }
 
-// u: a tuple, a list, an index base and the room of the lent buffer: the update and its undo list.
+// u: a tuple, a list, an index base and the room of each lent buffer: the update, its undo list, and
+// both by one press.
 fn print_updated(line: &[u8]) {
     let mut tuple_buffer = [0u8; 40960];
     let mut list_buffer = [0u8; 40960];
     let mut out_buffer = [0u8; 40960];
+    let mut undo_buffer = [0u8; 40960];
     let tuple = bytes_in(line, 0, &mut tuple_buffer);
     let list = bytes_in(line, 1, &mut list_buffer);
     let base = number_in(line, 2) as u64;
     let out = room_in(line, 3, &mut out_buffer);
+    let undo = room_in(line, 3, &mut undo_buffer);
+    text::print(b"u");
     update_cases::print_update(tuple, list, base, out);
+    update_cases::print_press(tuple, list, base, out, undo);
+}
+
+// p: a tuple, a list, an index base and the rooms of the two lent buffers: a press.
+fn print_pressed(line: &[u8]) {
+    let mut tuple_buffer = [0u8; 40960];
+    let mut list_buffer = [0u8; 40960];
+    let mut out_buffer = [0u8; 40960];
+    let mut undo_buffer = [0u8; 40960];
+    let tuple = bytes_in(line, 0, &mut tuple_buffer);
+    let list = bytes_in(line, 1, &mut list_buffer);
+    let base = number_in(line, 2) as u64;
+    let out = room_in(line, 3, &mut out_buffer);
+    let undo = room_in(line, 4, &mut undo_buffer);
+    text::print(b"p");
+    update_cases::print_press(tuple, list, base, out, undo);
 }
 
 // l: the listing of bytes, frames one after the other.
@@ -99,6 +119,7 @@ fn print_line(line: &[u8]) {
         b'f' => print_frame(fields),
         b'w' => print_written(fields),
         b'u' => print_updated(fields),
+        b'p' => print_pressed(fields),
         b'l' => print_listing(fields),
         b's' => print_fed(fields),
         _ => text::print(b"?\n"),
@@ -116,7 +137,7 @@ fn print_lines(input: &[u8]) {
 }
 
 fn main() {
-    let mut input = [0u8; 524288];
+    let mut input = [0u8; 655360];
     let n = io::read_full(0, &mut input);
     value_cases::print_first_bytes();
     print_lines(&input[0..n]);

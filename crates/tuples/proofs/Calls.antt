@@ -81,7 +81,7 @@ no-place t l w out = go (leb (length w) (length out))
 
 -- ---- the state after a call
 
-numbered : (k : Refusal) → eqb (numberOf k) 0 ≡ false
+pub numbered : (k : Refusal) → eqb (numberOf k) 0 ≡ false
 numbered BadTuple = refl
 numbered BadList = refl
 numbered NoField = refl

@@ -114,6 +114,9 @@ operation-fine base =
     after count (λ n. after mark (λ c. after anyInteger (λ z. of _ (actionOf base n c)
     (by (eqb n 3) (three-fine c) (by (eqb n 5) (five-fine base c) no) .on))))
 
+pub got-fine : (base : ℕ) (s : Bytes) {o : Operation} {r : Bytes} → operation base s ≡ gets o r → FineOperation o
+got-fine base s e = subst (Of FineOperation) e (operation-fine base .on s)
+
 pub data AllFine : List Operation → Type 0 where
   end : AllFine []
   fine : {o : Operation} {os : List Operation} → FineOperation o → AllFine os → AllFine (o ∷ os)

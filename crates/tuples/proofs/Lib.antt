@@ -8,3 +8,4 @@ pub mod Sound
 pub mod Taking
 pub mod Calls
 pub mod Sequences
+pub mod Presses

@@ -14,13 +14,14 @@ use Rattle.msgpack_values.specs.Pieces.{Single, Each, more}
 use Rattle.msgpack_writing.specs.Forms.{unsignedForm}
 use Rattle.tuples.specs.Limits.{fieldDepth}
 use Rattle.tuples.specs.Tuple.{Fields}
+use Rattle.tuples.specs.Decoding.{gets}
 use Rattle.tuples.specs.Operation.{assign, insert, remove, Operation, operation}
 use Rattle.tuples.specs.Edit.{Edit, refuse, put, add, cut, spliced, editAt, fieldAt, Plan, planOf, plans, Step, stop, next, perform, step, Run, done, onward, run, operationBytes, restored, inverse, undoOf}
 use Rattle.msgpack_first_bytes.proofs.Logic.{impossible}
 use Rattle.tuples.proofs.Whole.{each-append, each-take, each-drop, each-at}
 use Rattle.tuples.proofs.Legal.{Fits, Legal, limited-fits, limited-next, plain-length, field-length, fits-less}
-use Rattle.tuples.proofs.Decode.{ReadAs, at, assign-back, insert-back, remove-back, Written, none-left, one-more, written-append}
-use Rattle.tuples.proofs.Sound.{Brief, Sound, AllSound, none-left as no-plan, one-more as one-plan}
+use Rattle.tuples.proofs.Decode.{got-fine, ReadAs, at, assign-back, insert-back, remove-back, Written, none-left, one-more, written-append}
+use Rattle.tuples.proofs.Sound.{Brief, Sound, plan-sound, AllSound, none-left as no-plan, one-more as one-plan}
 
 -- ---- running
 
@@ -172,3 +173,8 @@ run-undone (p ∷ ps) t u i (one-plan k ks) g h =
     let x : Undone (inverse (p t) t) v t = unfold step in edit-undone t v g (p t) (k t) e in
     let y = run-undone ps v u (suc i) ks (x .legal) q in
     rw e (record { legal = y .legal; takes = takes-then (y .takes) (x .takes) })
+
+-- one operation leaves legal fields
+pub got-legal : (base : ℕ) (s : Bytes) {o : Operation} {r : Bytes} → operation base s ≡ gets o r → (t u : Fields) → Legal t → perform (planOf o t) t ≡ next u → Legal u
+unfolding run step
+got-legal base s {o} e t u g h = run-undone (planOf o ∷ []) t u 0 (one-plan (plan-sound o (got-fine base s e)) no-plan) g (rw h) .legal

@@ -1,4 +1,4 @@
--- Worked cases, computed: one for each rule, and a sequence. (01's examples marked (P) stand in the crate known_examples.)
+-- Worked cases, computed: one for each rule, a sequence, and presses. (01's examples marked (P) stand in the crate known_examples.)
 use Prim.Native.Nat.{ℕ, _-_}
 use mathlib.Core.Path.{_≡_, refl}
 use mathlib.Core.List.{List, [], _∷_, _++_, map}
@@ -10,6 +10,7 @@ use Rattle.msgpack_numbers.specs.Number.{number}
 use Rattle.msgpack_values.specs.Value.{payload, sized, items, byForm, one, tooDeep, container, value}
 use Rattle.msgpack_values.specs.Pieces.{pieces, joined}
 use Rattle.msgpack_values.specs.Spoiled.{noPlace, atPlace, spoiledAt}
+use Rattle.msgpack_values.specs.declared.OptionalNumber.{OptionalNumber}
 use Rattle.msgpack_scalars.specs.Integer.{dueIn, due, naturalOf, unsignedBy, unsigned, twosComplement, signedOf, signedBy, signed, adding, integer}
 use Rattle.msgpack_scalars.specs.Header.{counted, header}
 use Rattle.msgpack_writing.specs.Forms.{bigEndian, unsignedForm, negativeForm, stringHeader, arrayHeader}
@@ -19,6 +20,7 @@ use Rattle.tuples.specs.Operation.{three, five, actionOf, operation, bef
 use Rattle.tuples.specs.Edit.{asℤ, ranged, spliced, became, suited, altered, editAt, fieldAt, planOf, plans, fits, limited, perform, step, run, operationBytes, restored, inverse, undoOf}
 use Rattle.tuples.specs.Call.{judged, onRun, updateOf, limitedList, undoListOf, update, undo, Result, refusing, writing, delivered, spoiledIn, withPlace, updateCall, undoCall}
 use Rattle.tuples.specs.Sequence.{Event, updating, takingBack, OnPile, State, start, onAnswer, goesIn, takeBackCall, afterTakingBack, stateAfter}
+use Rattle.tuples.specs.Press.{pressing, press, PressResult, declining, writingBoth, pressed, placed, pressCall}
 
 -- the buffer that each call is lent, and what its caller sees of w written into it, and of a refusal
 abbrev pub room : Bytes
@@ -218,6 +220,57 @@ sequence =
     ∷ shown none (0x91 ∷ 0xcd ∷ 0x00 ∷ 0x05 ∷ []) []
     ∷ []
 
-pub worked : (map computed rules ≡ rules) × (showing (start first) events ≡ sequence)
-unfolding formOf sameKind number payload sized items byForm one tooDeep container value pieces joined dueIn due naturalOf unsignedBy unsigned twosComplement signedOf signedBy signed adding integer counted header bigEndian unsignedForm negativeForm stringHeader arrayHeader plain filling fieldsFilling fieldsBy fieldsOf onGot then made nothing valueFrom anyValue integerFrom anyInteger less floor atLeast position stringFrom string countFrom count mark three five actionOf operation before andMore operations listBy operationsOf asℤ ranged spliced became suited altered editAt fieldAt planOf plans fits limited perform step run operationBytes restored inverse undoOf judged onRun updateOf limitedList undoListOf update undo refusing writing delivered spoiledAt spoiledIn withPlace updateCall undoCall start onAnswer goesIn afterTakingBack stateAfter showing
-worked = (refl, refl)
+-- presses, and what their caller sees
+pub record PressCase : Type 0 where
+  pub tuple : Bytes
+  pub list : Bytes
+  pub out : Bytes
+  pub undo : Bytes
+  pub shows : PressResult
+
+abbrev pub pressComputed : PressCase → PressCase
+pressComputed c =
+    record { tuple = c .tuple; list = c .list; out = c .out; undo = c .undo; shows = pressCall (c .tuple) (c .list) 0 (c .out) (c .undo) }
+
+-- a refused one, with its operation: neither buffer is changed
+abbrev pub refusedPress : Bytes → Bytes → Bytes → Bytes → ℕ → ℕ → OptionalNumber → PressCase
+refusedPress t l out un k i p =
+    record {
+      tuple = t;
+      list = l;
+      out = out;
+      undo = un;
+      shows = record { number = k; operation = i; length = 0; undoLength = 0; place = p; buffer = out; undoBuffer = un };
+    }
+
+abbrev pub presses : List PressCase
+presses =
+    record {
+      tuple = 0x91 ∷ 0x07 ∷ [];
+      list = 0x91 ∷ 0x93 ∷ 0xa1 ∷ 0x2b ∷ 0x00 ∷ 0x01 ∷ [];
+      out = 0xee ∷ 0xee ∷ 0xee ∷ [];
+      undo = replicate 7 0xdd;
+      shows =
+          record {
+            number = 0;
+            operation = 0;
+            length = 2;
+            undoLength = 6;
+            place = noPlace;
+            buffer = 0x91 ∷ 0x08 ∷ 0xee ∷ [];
+            undoBuffer = 0x91 ∷ 0x93 ∷ 0xa1 ∷ 0x3d ∷ 0x00 ∷ 0x07 ∷ 0xdd ∷ [];
+          };
+    }
+    -- 18 for either buffer
+    ∷ refusedPress (0x91 ∷ 0x07 ∷ []) (0x91 ∷ 0x93 ∷ 0xa1 ∷ 0x2b ∷ 0x00 ∷ 0x01 ∷ []) (0xee ∷ []) room 18 0 noPlace
+    ∷ refusedPress (0x91 ∷ 0x07 ∷ []) (0x91 ∷ 0x93 ∷ 0xa1 ∷ 0x2b ∷ 0x00 ∷ 0x01 ∷ []) room (replicate 5 0xdd) 18 0 noPlace
+    -- 17 before 18, whichever buffer is too short; 13 and 11 before both
+    ∷ refusedPress (0x91 ∷ 0x01 ∷ []) longUndo [] room 17 0 noPlace
+    ∷ refusedPress (0x91 ∷ 0x01 ∷ []) longUndo room [] 17 0 noPlace
+    ∷ refusedPress (0x91 ∷ 0x01 ∷ []) (0x92 ∷ 0x93 ∷ 0xa1 ∷ 0x3d ∷ 0x00 ∷ 0x05 ∷ 0x93 ∷ 0xa1 ∷ 0x23 ∷ 0x01 ∷ 0x01 ∷ []) [] [] 13 1 noPlace
+    ∷ refusedPress (0x91 ∷ 0xc1 ∷ []) (0xc1 ∷ []) [] [] 11 0 (atPlace 1)
+    ∷ []
+
+pub worked : (map computed rules ≡ rules) × ((showing (start first) events ≡ sequence) × (map pressComputed presses ≡ presses))
+unfolding formOf sameKind number payload sized items byForm one tooDeep container value pieces joined dueIn due naturalOf unsignedBy unsigned twosComplement signedOf signedBy signed adding integer counted header bigEndian unsignedForm negativeForm stringHeader arrayHeader plain filling fieldsFilling fieldsBy fieldsOf onGot then made nothing valueFrom anyValue integerFrom anyInteger less floor atLeast position stringFrom string countFrom count mark three five actionOf operation before andMore operations listBy operationsOf asℤ ranged spliced became suited altered editAt fieldAt planOf plans fits limited perform step run operationBytes restored inverse undoOf judged onRun updateOf limitedList undoListOf update undo refusing writing delivered spoiledAt spoiledIn withPlace updateCall undoCall start onAnswer goesIn afterTakingBack stateAfter showing pressing press declining writingBoth pressed placed pressCall
+worked = (refl, (refl, refl))

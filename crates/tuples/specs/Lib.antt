@@ -6,4 +6,5 @@ pub mod Operation
 pub mod Edit
 pub mod Call
 pub mod Sequence
+pub mod Press
 pub mod Examples

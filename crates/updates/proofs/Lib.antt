@@ -1,5 +1,2 @@
--- The laws of the two calls, each once. Assumes nothing.
-pub mod Stepping
-pub mod Turns
+-- The laws of the three calls, each once. Assumes nothing.
 pub mod Calls
-pub mod Lists

@@ -1,4 +1,2 @@
--- A run of operations, straight from the bytes of a list.
-pub mod Running
-pub mod Carrying
-pub mod Listing
+-- What the parts of the calls tell each other.
+pub mod Telling

@@ -2,7 +2,7 @@
 
 use crate::reference::values::{self, Meaning, Value};
 use crate::reference::{frames, sessions, updates, Refusal};
-use laksubinat::raw::{self, Answer, FrameAnswer, SessionAnswer, SessionOpening, ValueAnswer};
+use laksubinat::raw::{self, Answer, FrameAnswer, PressAnswer, SessionAnswer, SessionOpening, ValueAnswer};
 use laksubinat::{Error, Frame};
 
 pub trait Calls {
@@ -11,6 +11,7 @@ pub trait Calls {
     fn frame_write(&self, frame: raw::Frame, bytes: &[u8], out: &mut [u8]) -> Answer;
     fn update(&self, tuple: &[u8], list: &[u8], base: u64, out: &mut [u8]) -> Answer;
     fn undo(&self, tuple: &[u8], list: &[u8], base: u64, out: &mut [u8]) -> Answer;
+    fn press(&self, tuple: &[u8], list: &[u8], base: u64, out: &mut [u8], undo: &mut [u8]) -> PressAnswer;
     fn session_open(&self, carry: &[u8]) -> SessionOpening;
     fn session_reset(&self) -> raw::Session;
     fn session_feed(&self, session: raw::Session, piece: &[u8], carry: &mut [u8]) -> SessionAnswer;
@@ -52,6 +53,10 @@ impl Calls for Reference {
 
     fn undo(&self, tuple: &[u8], list: &[u8], base: u64, out: &mut [u8]) -> Answer {
         deliver(updates::undo(tuple, list, base), out)
+    }
+
+    fn press(&self, tuple: &[u8], list: &[u8], base: u64, out: &mut [u8], undo: &mut [u8]) -> PressAnswer {
+        deliver_both(updates::press(tuple, list, base), out, undo)
     }
 
     fn session_open(&self, carry: &[u8]) -> SessionOpening {
@@ -102,6 +107,23 @@ fn deliver(result: Result<Vec<u8>, Refusal>, out: &mut [u8]) -> Answer {
         Ok(bytes) => {
             out[..bytes.len()].copy_from_slice(&bytes);
             Answer { length: bytes.len() as u64, ..Answer::default() }
+        }
+    }
+}
+
+/// Writes both or neither; 18 where either buffer is too short.
+fn deliver_both(result: Result<(Vec<u8>, Vec<u8>), Refusal>, out: &mut [u8], undo: &mut [u8]) -> PressAnswer {
+    let refused = |Refusal { number, operation, place }| {
+        let place = placed(place);
+        PressAnswer { number, operation, place, ..PressAnswer::default() }
+    };
+    match result {
+        Err(refusal) => refused(refusal),
+        Ok((new, back)) if new.len() > out.len() || back.len() > undo.len() => refused(18.into()),
+        Ok((new, back)) => {
+            out[..new.len()].copy_from_slice(&new);
+            undo[..back.len()].copy_from_slice(&back);
+            PressAnswer { length: new.len() as u64, undo_length: back.len() as u64, ..PressAnswer::default() }
         }
     }
 }
@@ -203,6 +225,12 @@ impl Calls for Interface {
         unsafe { raw::lak_undo(tuple.as_ptr(), n, list.as_ptr(), m, base, out.as_mut_ptr(), out.len()) }
     }
 
+    fn press(&self, tuple: &[u8], list: &[u8], base: u64, out: &mut [u8], undo: &mut [u8]) -> PressAnswer {
+        let (n, m, room, undo_room) = (tuple.len(), list.len(), out.len(), undo.len());
+        let (out, undo) = (out.as_mut_ptr(), undo.as_mut_ptr());
+        unsafe { raw::lak_press(tuple.as_ptr(), n, list.as_ptr(), m, base, out, room, undo, undo_room) }
+    }
+
     fn session_open(&self, carry: &[u8]) -> SessionOpening {
         unsafe { raw::lak_session_open(carry.as_ptr(), carry.len()) }
     }
@@ -241,6 +269,12 @@ impl Calls for Bindings {
 
     fn undo(&self, tuple: &[u8], list: &[u8], base: u64, out: &mut [u8]) -> Answer {
         bound(laksubinat::undo(tuple, list, base, out))
+    }
+
+    fn press(&self, tuple: &[u8], list: &[u8], base: u64, out: &mut [u8], undo: &mut [u8]) -> PressAnswer {
+        let pressed = laksubinat::press(tuple, list, base, out, undo);
+        let Answer { number, operation, length, place } = bound(pressed.map(|(length, _)| length));
+        PressAnswer { number, operation, length, undo_length: pressed.map_or(0, |(_, length)| length as u64), place }
     }
 
     // The crate's session owns its carry buffer and takes no other: `stream` compares it, and here is the interface.

@@ -2,10 +2,10 @@
 
 use crate::calls::{numbers, places, Calls};
 use crate::reference::values::{self, Meaning};
-use laksubinat::raw::{self, Answer, FrameAnswer, SessionAnswer, SessionOpening, ValueAnswer};
+use laksubinat::raw::{self, Answer, FrameAnswer, PressAnswer, SessionAnswer, SessionOpening, ValueAnswer};
 use std::fmt;
 
-/// The inputs of an update or undo call.
+/// The inputs of an update, undo or press call.
 #[derive(Clone)]
 pub struct Change {
     pub tuple: Vec<u8>,
@@ -31,12 +31,14 @@ pub enum Case {
     Write { frame: raw::Frame, bytes: Vec<u8>, room: usize },
     Update(Change),
     Undo(Change),
+    Press { change: Change, undo_room: usize },
     Open { room: usize },
     Feed(Feed),
 }
 
 /// The names of the calls, in the order of `Case`.
-pub const CALLS: [&str; 7] = ["value_read", "frame_read", "frame_write", "update", "undo", "session_open", "session_feed"];
+pub const CALLS: [&str; 8] =
+    ["value_read", "frame_read", "frame_write", "update", "undo", "press", "session_open", "session_feed"];
 
 #[derive(Clone, Debug, PartialEq)]
 #[allow(clippy::large_enum_variant)] // one lives at a time
@@ -44,15 +46,17 @@ pub enum Reply {
     Value(ValueAnswer),
     Read(FrameAnswer),
     Written(Answer),
+    Pressed(PressAnswer),
     Opened(SessionOpening),
     Fed(SessionAnswer),
 }
 
-/// A call's answer, and the lent buffer afterwards with the guards on both sides of it.
+/// A call's answer, and the lent buffer afterwards with the guards on both sides of it; of a press the undo list's too.
 #[derive(Clone, PartialEq)]
 pub struct Outcome {
     pub reply: Reply,
     buffer: Vec<u8>,
+    undo: Vec<u8>,
 }
 
 /// Bytes on each side of a lent buffer, which no call may touch.
@@ -80,8 +84,9 @@ impl Case {
             Case::Write { .. } => 2,
             Case::Update(_) => 3,
             Case::Undo(_) => 4,
-            Case::Open { .. } => 5,
-            Case::Feed(_) => 6,
+            Case::Press { .. } => 5,
+            Case::Open { .. } => 6,
+            Case::Feed(_) => 7,
         }
     }
 
@@ -90,15 +95,16 @@ impl Case {
         match self {
             Case::Value { .. } | Case::Read { .. } => (0, &[]),
             Case::Write { room, .. } | Case::Open { room } => (*room, &[]),
-            Case::Update(change) | Case::Undo(change) => (change.room, &[]),
+            Case::Update(change) | Case::Undo(change) | Case::Press { change, .. } => (change.room, &[]),
             Case::Feed(feed) => (feed.room, &feed.begun[..feed.room.min(feed.begun.len())]),
         }
     }
 
-    /// Makes the call, on a buffer that is else filled with the pattern.
+    /// Makes the call, on buffers that are else filled with the pattern.
     pub fn run(&self, calls: &dyn Calls) -> Outcome {
         let (room, begun) = self.lent();
-        let mut buffer = patterned(room);
+        let undo_room = if let Case::Press { undo_room, .. } = self { *undo_room } else { 0 };
+        let (mut buffer, mut undo) = (patterned(room), patterned(undo_room));
         let out = &mut buffer[GUARD..GUARD + room];
         out[..begun.len()].copy_from_slice(begun);
         let reply = match self {
@@ -107,17 +113,23 @@ impl Case {
             Case::Write { frame, bytes, .. } => Reply::Written(calls.frame_write(*frame, bytes, out)),
             Case::Update(change) => Reply::Written(calls.update(&change.tuple, &change.list, change.base, out)),
             Case::Undo(change) => Reply::Written(calls.undo(&change.tuple, &change.list, change.base, out)),
+            Case::Press { change, .. } => {
+                let undo = &mut undo[GUARD..GUARD + undo_room];
+                Reply::Pressed(calls.press(&change.tuple, &change.list, change.base, out, undo))
+            }
             Case::Open { .. } => Reply::Opened(calls.session_open(out)),
             Case::Feed(feed) => Reply::Fed(calls.session_feed(feed.session, &feed.piece, out)),
         };
-        Outcome { reply, buffer }
+        Outcome { reply, buffer, undo }
     }
 
     /// The inputs that are bytes, for making them smaller.
     pub fn parts(&mut self) -> Vec<&mut Vec<u8>> {
         match self {
             Case::Value { bytes } | Case::Read { bytes } | Case::Write { bytes, .. } => vec![bytes],
-            Case::Update(change) | Case::Undo(change) => vec![&mut change.tuple, &mut change.list],
+            Case::Update(change) | Case::Undo(change) | Case::Press { change, .. } => {
+                vec![&mut change.tuple, &mut change.list]
+            }
             Case::Open { .. } => vec![],
             Case::Feed(feed) => vec![&mut feed.begun, &mut feed.piece],
         }
@@ -135,6 +147,7 @@ impl Outcome {
             Reply::Value(answer) => answer.number,
             Reply::Read(answer) => answer.number,
             Reply::Written(answer) => answer.number,
+            Reply::Pressed(answer) => answer.number,
             Reply::Opened(answer) => answer.number,
             Reply::Fed(answer) => answer.number,
         }
@@ -145,6 +158,7 @@ impl Outcome {
             Reply::Value(answer) => answer.place,
             Reply::Read(answer) => answer.place,
             Reply::Written(answer) => answer.place,
+            Reply::Pressed(answer) => answer.place,
             Reply::Opened(_) => raw::Number::default(),
             Reply::Fed(answer) => answer.place,
         }
@@ -155,14 +169,28 @@ impl Outcome {
             Reply::Value(answer) => answer.length as usize,
             Reply::Read(answer) => answer.length as usize,
             Reply::Written(answer) => answer.length as usize,
+            Reply::Pressed(answer) => answer.length as usize,
             Reply::Opened(_) => 0,
             Reply::Fed(answer) => answer.length as usize,
+        }
+    }
+
+    /// The length of a press's undo list.
+    pub fn undo_length(&self) -> usize {
+        match &self.reply {
+            Reply::Pressed(answer) => answer.undo_length as usize,
+            _ => 0,
         }
     }
 
     /// The bytes written, as the reference says; a library's length may be any number.
     pub fn written(&self) -> &[u8] {
         &self.buffer[GUARD..GUARD + self.length()]
+    }
+
+    /// The undo list that a press wrote, as the reference says.
+    pub fn undo_written(&self) -> &[u8] {
+        &self.undo[GUARD..GUARD + self.undo_length()]
     }
 
     /// Whether the lent buffer begins with these bytes, and the pattern follows them.
@@ -203,6 +231,7 @@ impl fmt::Display for Case {
             Case::Value { bytes } | Case::Read { bytes } => write!(f, "bytes {}", hex(bytes)),
             Case::Write { frame, bytes, room } => write!(f, "{}\nbytes {}\nroom {room}", shown(*frame), hex(bytes)),
             Case::Update(change) | Case::Undo(change) => change.fmt(f),
+            Case::Press { change, undo_room } => write!(f, "{change}\nroom for the undo list {undo_room}"),
             Case::Open { room } => write!(f, "room {room}"),
             Case::Feed(feed) => feed.fmt(f),
         }
@@ -219,14 +248,20 @@ impl fmt::Display for Outcome {
             Reply::Opened(answer) => return write!(f, "{answer:?}"),
             Reply::Fed(answer) => return write!(f, "{}\ncarry buffer {}", fed(answer), carried(&self.buffer)),
             Reply::Written(answer) => write!(f, "{answer:?}")?,
+            Reply::Pressed(answer) => write!(f, "{answer:?}\nundo list{}\ntuple", left_in(&self.undo, self.undo_length()))?,
         }
-        let end = GUARD.saturating_add(self.length());
-        write!(f, " {}", hex(self.buffer.get(GUARD..end).unwrap_or_default()))?;
-        let outside = |at: &usize| !(GUARD..end).contains(at) && self.buffer[*at] != PATTERN[*at];
-        match (0..self.buffer.len()).find(outside) {
-            Some(at) => write!(f, ", and byte {} of the buffer changed", at as i64 - GUARD as i64),
-            None => Ok(()),
-        }
+        write!(f, "{}", left_in(&self.buffer, self.length()))
+    }
+}
+
+/// The bytes of this length at a lent buffer's start, and the first byte outside them that was changed.
+fn left_in(buffer: &[u8], length: usize) -> String {
+    let end = GUARD.saturating_add(length);
+    let bytes = hex(buffer.get(GUARD..end).unwrap_or_default());
+    let outside = |at: &usize| !(GUARD..end).contains(at) && buffer[*at] != PATTERN[*at];
+    match (0..buffer.len()).find(outside) {
+        Some(at) => format!(" {bytes}, and byte {} of the buffer changed", at as i64 - GUARD as i64),
+        None => format!(" {bytes}"),
     }
 }
 

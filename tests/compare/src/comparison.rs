@@ -9,22 +9,24 @@ use laksubinat::raw;
 use std::fmt;
 
 /// How often each call gave each number, 0 for accepted.
-pub type Counts = [[u64; 20]; 7];
+pub type Counts = [[u64; 20]; 8];
 
 /// The numbers that each call can give.
-const NUMBERS: [&[usize]; 7] = [
+const NUMBERS: [&[usize]; 8] = [
     &[0, 4],
     &[0, 1, 2, 3, 4, 5, 6, 7, 8, 9, 10],
     &[0, 3, 4, 8, 9, 10, 18],
     &[0, 11, 12, 13, 14, 15, 16, 18],
+    &[0, 11, 12, 13, 14, 15, 16, 17, 18],
     &[0, 11, 12, 13, 14, 15, 16, 17, 18],
     &[0, 19],
     &[0, 1, 2, 3, 4, 5, 6, 7, 8, 9, 10, 19],
 ];
 
 /// The numbers beside which each call gives a place; those that it gives without one too.
-const PLACED: [(&[usize], &[usize]); 7] =
-    [(&[4], &[]), (&[4], &[]), (&[], &[4]), (&[11, 12], &[11, 12]), (&[11, 12], &[11, 12]), (&[], &[]), (&[4], &[])];
+const PLACED: [(&[usize], &[usize]); 8] =
+    [(&[4], &[]), (&[4], &[]), (&[], &[4]), CHANGES, CHANGES, CHANGES, (&[], &[]), (&[4], &[])];
+const CHANGES: (&[usize], &[usize]) = (&[11, 12], &[11, 12]);
 
 /// What a library did otherwise than it should.
 pub struct Difference(pub String);
@@ -62,7 +64,8 @@ impl<'a> Comparison<'a> {
             6..=8 => {
                 let change = changes::change(r);
                 self.roomy(r, Case::Undo(change.clone()))?;
-                self.roomy(r, Case::Update(change)).map(drop)
+                self.roomy(r, Case::Update(change.clone()))?;
+                self.roomy(r, Case::Press { change, undo_room: 0 }).map(drop)
             }
             9 => sequence::run(r, self),
             10 => self.same(&Case::Open { room: sessions::room(r) }).map(drop),
@@ -92,11 +95,11 @@ impl<'a> Comparison<'a> {
         }
     }
 
-    /// The same with a room near the length of what is to be written.
+    /// The same with a room near the length of what is to be written; of a press, for both that it writes.
     pub fn roomy(&mut self, r: &mut Random, mut case: Case) -> Result<Outcome, Difference> {
-        let wide = with_room(&mut case, MOST_ROOM).run(&Reference).length();
-        let room = room(r, wide);
-        self.same(with_room(&mut case, room))
+        let wide = with_room(&mut case, MOST_ROOM, MOST_ROOM).run(&Reference);
+        let (tuple_room, undo_room) = (room(r, wide.length()), room(r, wide.undo_length()));
+        self.same(with_room(&mut case, tuple_room, undo_room))
     }
 
     /// Writes a record; what was written is read as the same, and written again identically.
@@ -155,11 +158,12 @@ impl Seen {
     }
 }
 
-fn with_room(case: &mut Case, wanted: usize) -> &Case {
+fn with_room(case: &mut Case, wanted: usize, wanted_undo: usize) -> &Case {
     match case {
         Case::Value { .. } | Case::Read { .. } => {}
         Case::Open { .. } | Case::Feed(_) => {}
         Case::Write { room, .. } | Case::Update(Change { room, .. }) | Case::Undo(Change { room, .. }) => *room = wanted,
+        Case::Press { change, undo_room } => (change.room, *undo_room) = (wanted, wanted_undo),
     }
     case
 }

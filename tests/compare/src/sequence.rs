@@ -1,4 +1,4 @@
-//! Whole sequences of updates and takings back: the tuple and the pile of undo lists as each step leaves them.
+//! Whole sequences of updates, presses and takings back: the tuple and the pile of undo lists as each step leaves them.
 
 use crate::cases::{Case, Change, Outcome};
 use crate::comparison::{Comparison, Difference};
@@ -13,6 +13,7 @@ pub struct Counts {
     sequences: u64,
     went_in: u64,
     stayed_out: u64,
+    pressed: u64,
     taken_back: u64,
     refused_back: u64,
     highest_pile: usize,
@@ -20,11 +21,11 @@ pub struct Counts {
 
 impl fmt::Display for Counts {
     fn fmt(&self, f: &mut fmt::Formatter<'_>) -> fmt::Result {
-        let Counts { sequences, went_in, stayed_out, taken_back, refused_back, highest_pile } = self;
+        let Counts { sequences, went_in, stayed_out, pressed, taken_back, refused_back, highest_pile } = self;
         write!(
             f,
-            "{sequences} sequences: {went_in} updates went in, {stayed_out} did not; {taken_back} were taken back, \
-             {refused_back} takings back had no room; highest pile {highest_pile}"
+            "{sequences} sequences: {went_in} updates went in ({pressed} as a press), {stayed_out} did not; \
+             {taken_back} were taken back, {refused_back} takings back had no room; highest pile {highest_pile}"
         )
     }
 }
@@ -59,12 +60,37 @@ impl Sequence {
         // The claim on the undo call of an update that went in, with just enough room.
         let undone = c.same(&Case::Undo(Change { room: list.len(), ..change.clone() }))?;
         hold(undone.number() == 0 && undone.written() == list, "the undo call wrote another list", &change, &undone)?;
+        self.go_in(c, list, answer.written());
+        Ok(())
+    }
+
+    /// A press of the sequence's tuple: it goes in exactly where the answer is 0.
+    pub fn press(
+        &mut self,
+        c: &mut Comparison,
+        list: &[u8],
+        base: u64,
+        room: usize,
+        undo_room: usize,
+    ) -> Result<(), Difference> {
+        let change = Change { tuple: self.tuple.clone(), list: list.to_vec(), base, room };
+        let answer = c.same(&Case::Press { change, undo_room })?;
+        if answer.number() != 0 {
+            c.sequences.stayed_out += 1;
+            return Ok(());
+        }
+        self.go_in(c, answer.undo_written().to_vec(), answer.written());
+        c.sequences.pressed += 1;
+        Ok(())
+    }
+
+    /// The new tuple is the sequence's, and the undo list lies on the pile.
+    fn go_in(&mut self, c: &mut Comparison, list: Vec<u8>, tuple: &[u8]) {
         let fields = updates::fields(&self.tuple).expect("the sequence's tuple is one");
         self.pile.push(Laid { list, plain: updates::plain(&fields) });
-        self.tuple = answer.written().to_vec();
+        self.tuple = tuple.to_vec();
         c.sequences.went_in += 1;
         c.sequences.highest_pile = c.sequences.highest_pile.max(self.pile.len());
-        Ok(())
     }
 
     /// A taking back by the pile's top list, with a room chosen for the length of the plain form. With enough room it
@@ -118,7 +144,13 @@ pub fn run(r: &mut Random, c: &mut Comparison) -> Result<(), Difference> {
     Ok(())
 }
 
+/// An update by the update call and the undo call, or by a press.
 fn update(r: &mut Random, c: &mut Comparison, s: &mut Sequence, list: &[u8], base: u64) -> Result<(), Difference> {
+    if r.one_in(2) {
+        let both = updates::press(&s.tuple, list, base).unwrap_or_default();
+        let (tuple_room, undo_room) = (room(r, both.0.len()), room(r, both.1.len()));
+        return s.press(c, list, base, tuple_room, undo_room);
+    }
     let length = updates::update(&s.tuple, list, base).map_or(0, |bytes| bytes.len());
     s.update(c, list, base, room(r, length))
 }

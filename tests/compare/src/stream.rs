@@ -102,7 +102,7 @@ impl End {
                 return Err(Difference(format!("session_feed\n{given}\n{name}: {theirs}\nreference: {ours}")));
             }
         }
-        c.count(6, expected.number, expected.place);
+        c.count(7, expected.number, expected.place);
         c.streams.feeds += 1;
         self.session = expected.session;
         Ok(expected)

@@ -275,7 +275,8 @@ fn index_offset_and_iterator_written() {
 fn update(tuple: &[u8], list: &[u8], base: u64, number: u32, what: &str) {
     let change = Change { tuple: tuple.to_vec(), list: list.to_vec(), base, room: 32_768 };
     gives(&Case::Update(change.clone()), number, what);
-    gives(&Case::Undo(change), number, what);
+    gives(&Case::Undo(change.clone()), number, what);
+    gives(&Case::Press { change, undo_room: 32_768 }, number, what);
 }
 
 fn operation(mark: u8, f: u8, argument: &[u8]) -> Vec<u8> {
@@ -307,11 +308,12 @@ fn tuples_and_lists() {
     update(&none[..0], &none, 2, 11, "a broken tuple comes first");
 }
 
-/// Both calls give the number, and where a value broke.
+/// The three calls give the number, and where a value broke.
 fn change(tuple: &[u8], list: &[u8], base: u64, number: u32, place: Option<u64>, what: &str) {
     let change = Change { tuple: tuple.to_vec(), list: list.to_vec(), base, room: 32_768 };
     breaks(&Case::Update(change.clone()), number, place, what);
-    breaks(&Case::Undo(change), number, place, what);
+    breaks(&Case::Undo(change.clone()), number, place, what);
+    breaks(&Case::Press { change, undo_room: 32_768 }, number, place, what);
 }
 
 #[test]
@@ -423,7 +425,10 @@ fn after_an_operation() {
 fn undo(tuple: &[u8], operations: &[Vec<u8>], number: u32, what: &str) {
     let change = Change { tuple: tuple.to_vec(), list: array(operations), base: 0, room: 32_768 };
     gives(&Case::Update(change.clone()), 0, what);
-    gives(&Case::Undo(change), number, what);
+    gives(&Case::Undo(change.clone()), number, what);
+    gives(&Case::Press { change: change.clone(), undo_room: 32_768 }, number, what);
+    let short = Case::Press { change: Change { room: 0, ..change }, undo_room: 0 };
+    gives(&short, if number == 0 { 18 } else { number }, what);
 }
 
 #[test]
@@ -441,6 +446,18 @@ fn undo_lists() {
     undo(&[vec![0x92], text, bin(old + 1)].concat(), &list, 17, "an undo list of 32,769 bytes");
 }
 
+/// Either buffer may be too short by a byte, and then neither is changed.
+#[test]
+fn rooms_of_a_press() {
+    let change = |room| Change { tuple: unhex("9305a26162c3"), list: unhex("9193a15e0001"), base: 0, room };
+    for (room, undo_room, number) in [(6, 6, 0), (7, 7, 0), (5, 6, 18), (6, 5, 18), (5, 5, 18), (0, 6, 18), (6, 0, 18)] {
+        let case = Case::Press { change: change(room), undo_room };
+        gives(&case, number, &format!("rooms of {room} and {undo_room}"));
+        let outcomes = ALL.map(|calls| case.run(calls));
+        assert!(outcomes[0] == outcomes[1] && outcomes[0] == outcomes[2], "{case}\n{}", outcomes[1]);
+    }
+}
+
 #[test]
 fn no_bytes_need_no_address() {
     let (bytes, out) = (std::ptr::null(), std::ptr::null_mut());
@@ -452,10 +469,11 @@ fn no_bytes_need_no_address() {
             raw::lak_frame_write(Frame::default(), bytes, 0, out, 0).number,
             raw::lak_update(bytes, 0, bytes, 0, 0, out, 0).number,
             raw::lak_undo([0x90].as_ptr(), 1, [0x90].as_ptr(), 1, 0, out, 0).number,
+            raw::lak_press([0x90].as_ptr(), 1, [0x90].as_ptr(), 1, 0, out, 0, out, 0).number,
             raw::lak_session_open(bytes, 0).number,
             raw::lak_session_feed(raw::lak_session_reset(), bytes, 0, out, 0).number,
             raw::lak_session_feed(raw::lak_session_reset(), bytes, 0, [0; 60_009].as_mut_ptr(), 60_009).number,
         ]
     };
-    assert_eq!(numbers, [4, 1, 18, 11, 18, 19, 19, 1]);
+    assert_eq!(numbers, [4, 1, 18, 11, 18, 18, 19, 19, 1]);
 }

@@ -2,7 +2,7 @@
 
 use compare::calls::{Calls, Reference};
 use compare::comparison::Comparison;
-use laksubinat::raw::{self, Answer, FrameAnswer, SessionAnswer, SessionOpening, ValueAnswer};
+use laksubinat::raw::{self, Answer, FrameAnswer, PressAnswer, SessionAnswer, SessionOpening, ValueAnswer};
 
 #[test]
 fn library_and_second_implementation_agree() {
@@ -20,6 +20,7 @@ fn library_and_second_implementation_agree() {
 struct Impostor {
     on_write: fn(Answer, &mut [u8]) -> Answer,
     on_list: fn(&[u8]) -> &[u8],
+    on_press: fn(PressAnswer, &mut [u8], &mut [u8]) -> PressAnswer,
     on_feed: fn(SessionAnswer, &[u8], &mut [u8]) -> SessionAnswer,
     on_reset: fn(raw::Session) -> raw::Session,
 }
@@ -27,6 +28,7 @@ struct Impostor {
 const HONEST: Impostor = Impostor {
     on_write: |answer, _| answer,
     on_list: |list| list,
+    on_press: |answer, _, _| answer,
     on_feed: |answer, _, _| answer,
     on_reset: |session| session,
 };
@@ -50,6 +52,10 @@ impl Calls for Impostor {
 
     fn undo(&self, tuple: &[u8], list: &[u8], base: u64, out: &mut [u8]) -> Answer {
         Reference.undo(tuple, list, base, out)
+    }
+
+    fn press(&self, tuple: &[u8], list: &[u8], base: u64, out: &mut [u8], undo: &mut [u8]) -> PressAnswer {
+        (self.on_press)(Reference.press(tuple, list, base, out, undo), out, undo)
     }
 
     fn session_open(&self, carry: &[u8]) -> SessionOpening {
@@ -115,6 +121,29 @@ fn a_byte_past_the_length_or_under_a_refusal_is_seen() {
         answer
     };
     assert!(is_found_out(Impostor { on_write: refused, ..HONEST }));
+}
+
+#[test]
+fn impostors_of_presses_are_found_out() {
+    let longer = |answer: PressAnswer, _: &mut [u8], _: &mut [u8]| PressAnswer {
+        undo_length: answer.undo_length + u64::from(answer.number == 0),
+        ..answer
+    };
+    assert!(is_found_out(Impostor { on_press: longer, ..HONEST }));
+    let past = |answer: PressAnswer, _: &mut [u8], undo: &mut [u8]| {
+        if let Some(byte) = undo.get_mut(answer.undo_length as usize) {
+            *byte ^= 1;
+        }
+        answer
+    };
+    assert!(is_found_out(Impostor { on_press: past, ..HONEST }));
+    let half = |answer: PressAnswer, out: &mut [u8], _: &mut [u8]| {
+        if answer.number == 18 && !out.is_empty() {
+            out[0] ^= 1;
+        }
+        answer
+    };
+    assert!(is_found_out(Impostor { on_press: half, ..HONEST }));
 }
 
 #[test]

@@ -2,7 +2,7 @@
 
 use compare::calls::{Bindings, Calls, Interface, Reference};
 use compare::cases::{unhex, Case, Change, Reply};
-use laksubinat::raw::{Answer, Frame, FrameAnswer, Number, Place, ValueAnswer};
+use laksubinat::raw::{Answer, Frame, FrameAnswer, Number, Place, PressAnswer, ValueAnswer};
 
 const ALL: [&dyn Calls; 3] = [&Reference, &Interface, &Bindings];
 const REQUESTS: &[u8] = include_bytes!("../../model/data/requests.bin");
@@ -25,10 +25,22 @@ fn place(start: u64, length: u64) -> Place {
     Place { present: true, start, length }
 }
 
-/// The update's and the undo call's answers, each with what it wrote.
+/// The update's and the undo call's answers, each with what it wrote; a press writes both, or is refused as the undo call.
 fn change(tuple: &str, list: &str) -> [(Answer, Vec<u8>); 2] {
     let change = Change { tuple: unhex(tuple), list: unhex(list), base: 0, room: 32_768 };
-    [Case::Update(change.clone()), Case::Undo(change)].map(|case| {
+    let answers = both(&change);
+    for calls in ALL {
+        let pressed = Case::Press { change: change.clone(), undo_room: 32_768 }.run(calls);
+        let Reply::Pressed(PressAnswer { number, operation, place, .. }) = pressed.reply else { unreachable!("a press") };
+        let [(_, after), (undone, back)] = &answers;
+        assert_eq!((number, operation, place), (undone.number, undone.operation, undone.place), "{change}");
+        assert_eq!((pressed.written(), pressed.undo_written()), (&after[..], &back[..]), "{change}");
+    }
+    answers
+}
+
+fn both(change: &Change) -> [(Answer, Vec<u8>); 2] {
+    [Case::Update(change.clone()), Case::Undo(change.clone())].map(|case| {
         let outcomes = ALL.map(|calls| case.run(calls));
         assert!(outcomes[0] == outcomes[1] && outcomes[0] == outcomes[2], "{case}\n{}", outcomes[1]);
         match outcomes[0].reply {

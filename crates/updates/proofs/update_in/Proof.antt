@@ -1,47 +1,62 @@
--- What is held after all operations is delivered. Assumes nothing.
-use mathlib.Core.Path.{refl, sym, ap, _∙_}
-use native.Mathlib.Omega.{arith}
-use lib.Seq.{length-take-le}
-use Rattle.tuples.specs.Call.{bytes}
-use Rattle.answers.proofs.Written.{seen-refusal}
-use Rattle.updates.specs.Carrying.{Refuses, Carried}
-use Rattle.updates.proofs.Calls.{plain-held, end-inside}
-use Rattle.updates.proofs.Lists.{seen-list}
+use mathlib.Core.Path.{sym, subst}
+use Rattle.tuples.specs.Call.{update}
+use Rattle.updates.specs.declared.Call.{Call}
+use Rattle.updates.specs.Telling.{Tells}
+use Rattle.updates.proofs.Calls.{told-update}
 use borrow.Author.Needs.{needs}
 use Rattle.updates.proofs.update_in.Statement.{statement}
 use Rattle.updates.proofs.update_in.Tie as tie
+use Rattle.updates.proofs.update_in.Reads as reads
+use Rattle.updates.proofs.update_in.Lts as lts
+use Rattle.update_delivering.proofs.update_with.Reads as update-with-reads
+use Rattle.updates.proofs.call_of.Reads as call-of-reads
 
-refusing : (k : tie.After-known-told) → (let a = k .before .before .before .before .before .before .before .before .before .before .before .before .before .before .before .before .before .before .args in let x = k .before .refusal .given .0 in Refuses (x .0) (x .1 .0) (a .tuple .now) (a .list .now) (a .index-base))
-refusing k = rw (k .before .refusal .given .1) at (k .before .before .before .before .before .before .before .before .carry-out .ensures)
+-- src/lib.rt:91:9
+array-borrow-prefix-none : tie.Need-array-borrow-prefix-none
+array-borrow-prefix-none c = search needs
 
-carried : (k : tie.After-known-told2) → (let r = k .before .before .before .before .before .before .before .before in let a = r .before .before .before .before .before .before .before .before .before .before .args in let t = r .carry-out .last .1 .1 .1 in Carried (k .before .stage .given .0 .0) (t .0) (t .1 .0) (t .1 .1 .1 .0) (a .tuple .now) (a .list .now) (a .index-base))
-carried k = rw (k .before .stage .given .1) at (k .before .before .before .before .before .before .before .before .carry-out .ensures)
+-- src/lib.rt:91:9
+slice-aggregate-update-with : tie.Need-slice-aggregate-update-with
+slice-aggregate-update-with c = search needs
 
-returns-2 : tie.Need-returns-2
-returns-2 c =
-    let k = c .before in
-    let a = k .before .before .before .before .before .before .before .before .before .before .before .before .before .before .before .before .before .before .args in
-    let x = k .before .refusal .given .0 in
-    seen-list (a .out .now) (sym (refusing k .1)) (seen-refusal (x .0) (x .1 .0) (a .out .now) (c .refused .ensures))
+-- src/lib.rt:82:13
+update-with-requires : tie.Need-update-with-requires
+update-with-requires c κs = search needs
 
-returns-3 : tie.Need-returns-3
-returns-3 c =
-    let d = c .before .before in
-    let e = d .before .before .before in
-    let k = e .before .before in
-    let a = k .before .before .before .before .before .before .before .before .before .before .before .before .before .before .before .before .before .before .args in
-    let t = carried k in
-    seen-list (a .out .now) (sym (t .updated ∙ ap bytes (plain-held (t .fit)))) (d .deliver .ensures ∙ rw (e .end-of .ensures))
+-- src/lib.rt:82:5
+call-of-requires : tie.Need-call-of-requires
+call-of-requires c κs = search needs
+
+-- src/lib.rt:69:1
+same-length : tie.Need-same-length
+same-length c = search needs
+
+-- src/lib.rt:69:1
+same-length-2 : tie.Need-same-length-2
+same-length-2 c = search needs
+
+-- src/lib.rt:69:1
+same-length-3 : tie.Need-same-length-3
+same-length-3 c = search needs
+
+-- src/lib.rt:69:1
+returns : tie.Need-returns
+returns c =
+    let u = c .before .before .before .before .before .before .before .before in
+    let o = u .before .before .before .before .before .before .before .before .before .before in
+    let a = o .args in
+    subst (λ (x : Call). Tells x (update (a .tuple .now) (a .list .now) (a .base)) (a .out .now) (u .update-with .last .1 .1 .1 .1 .1 .1 .1 .1 .1 .0)) (sym (c .call-of .ensures))
+    (told-update (a .tuple .now) (a .list .now) (a .base) (a .front) (o .pre) (a .out .now) (u .update-with .last .1 .1 .1 .1 .1 .1 .1 .1 .1 .0) (u .update-with .result) _ (u .update-with .last .1 .1 .1 .1 .1 .1 .1 .1 .0) (a .work .now) (a .table .now) (u .update-with .ensures))
 
 pub update-in-spec : {M : Type 1} → statement M
 update-in-spec =
-    tie.close (tie.spec (λ c. search needs) (λ c. search needs) (λ c κs. search needs) (λ c. search needs) (λ c. search needs)
-    (λ c. let h = refusing c in omega (arith, h .0)) (λ c κs. search needs) (λ c. search needs)
-    (λ c. sym (carried (c .before) .fit .rows)) (λ c κs. search needs)
-    (λ c. let t = carried (c .before .before) in omega (arith, t .fit .few))
-    (λ c. rw (c .end-of .ensures) (end-inside (carried (c .before .before) .fit)))
-    (λ c. sym (length-take-le _ _ (rw (c .before .end-of .ensures) (end-inside (carried (c .before .before .before) .fit)))))
-    (λ c κs. search needs) (λ c. search needs) (λ c. search needs)
-    (λ c. let r = c .before .before .before .before .before .before .before in
-    let n = rw (c .enum-told .given .1) at (r .carry-out .ensures) in (refl, omega (arith, n, r .carry-out .kept .1 .1 .1 .0)))
-    (λ c. search needs) (λ c. search needs) returns-2 (λ c. search needs) (λ c. search needs) (λ c. search needs) returns-3)
+    tie.close
+    (tie.spec
+    array-borrow-prefix-none
+    slice-aggregate-update-with
+    update-with-requires
+    call-of-requires
+    same-length
+    same-length-2
+    same-length-3
+    returns)

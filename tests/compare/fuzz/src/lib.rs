@@ -70,6 +70,10 @@ fn sequence(input: &mut Input, comparison: &mut Comparison) -> Result<(), Differ
         match input.byte() {
             0x80.. => sequence.take_back(comparison, |length| length + usize::from(input.byte()))?,
             0x70.. => sequence.take_back(comparison, |_| input.word())?,
+            base @ 0x60.. => {
+                let (room, undo_room) = (input.word(), input.word());
+                sequence.press(comparison, input.sized_part(), (base - 0x60).into(), room, undo_room)?
+            }
             base => sequence.update(comparison, input.sized_part(), base.into(), 16_384)?,
         }
     }
@@ -103,6 +107,7 @@ fn compare(mut input: Input) -> Result<(), Difference> {
         4 => Case::Undo(change(&mut input)),
         5 => Case::Feed(feed(&mut input)),
         6 => return line(&mut input, &mut comparison),
+        7 => Case::Press { undo_room: input.word(), change: change(&mut input) },
         _ => return sequence(&mut input, &mut comparison),
     };
     comparison.same(&case).map(drop)

@@ -1,6 +1,6 @@
 //! Tuples, lists that suit them, and both at their borders.
 
-use super::{about, values};
+use super::{about, values, working};
 use crate::cases::Change;
 use crate::random::Random;
 use crate::reference::updates::{self, Fields, DEPTH, MOST_FIELDS, MOST_LIST_BYTES, MOST_OPERATIONS, MOST_TUPLE_BYTES};
@@ -120,7 +120,7 @@ fn splice(r: &mut Random, base: u64, length: usize) -> Vec<Vec<u8>> {
 }
 
 /// One operation for these fields, in any form; now and then one of a wrong shape.
-fn operation(r: &mut Random, fields: &Fields, base: u64) -> Vec<u8> {
+pub fn operation(r: &mut Random, fields: &Fields, base: u64) -> Vec<u8> {
     let mark = *r.pick(MARKS);
     let f = field_number(r, fields, mark);
     let field = usize::try_from(f).ok().and_then(|f| meant::whole(fields.get(f)?, DEPTH));
@@ -182,14 +182,14 @@ pub fn base(r: &mut Random) -> u64 {
 }
 
 /// The bytes of an operation of three before its argument: array header, mark and field number.
-const BEFORE: usize = 4;
+pub const BEFORE: usize = 4;
 
-fn three(mark: u8, f: usize, argument: &[u8]) -> Vec<u8> {
+pub fn three(mark: u8, f: usize, argument: &[u8]) -> Vec<u8> {
     meant::array(&[&meant::string(&[mark]), &meant::integer(f as i128), argument])
 }
 
 /// The length of the shortest array header.
-fn header_length(count: usize) -> usize {
+pub fn header_length(count: usize) -> usize {
     meant::array(&vec![[]; count]).len()
 }
 
@@ -328,7 +328,7 @@ fn spoiled_list(r: &mut Random) -> Change {
     Change { tuple: vec![0x91, 0x01], list, base: if r.one_in(4) { 7 } else { 0 }, room: 0 }
 }
 
-/// The inputs of an update or undo call; the room is still to be chosen.
+/// The inputs of an update, undo or press call; the room is still to be chosen.
 pub fn change(r: &mut Random) -> Change {
     let mut change = match r.below(100) {
         0 => long_list(r),
@@ -337,6 +337,12 @@ pub fn change(r: &mut Random) -> Change {
         5..=7 => filled(r),
         8..=11 => return spoiled_tuple(r),
         12..=15 => return spoiled_list(r),
+        16..=23 => working::filled_up(r),
+        24 | 25 => working::spliced_again(r),
+        26..=29 => working::full_table(r),
+        30..=32 => working::long_argument(r),
+        33 | 34 => working::removed_twice(r),
+        35 | 36 => working::kept_whole(r),
         _ => {
             let (tuple, base) = (tuple(r), base(r));
             Change { list: list(r, &tuple, base), tuple, base, room: 0 }

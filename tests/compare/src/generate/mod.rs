@@ -4,6 +4,7 @@ pub mod changes;
 pub mod frames;
 pub mod sessions;
 pub mod values;
+pub mod working;
 
 use crate::random::Random;
 

@@ -166,6 +166,11 @@ pub fn update(tuple: &[u8], list: &[u8], base: u64) -> Result<Vec<u8>, Refusal> 
     Ok(plain(&run(tuple, list, base)?.0))
 }
 
+/// Both, of one press: the tuple after the list, and the undo list.
+pub fn press(tuple: &[u8], list: &[u8], base: u64) -> Result<(Vec<u8>, Vec<u8>), Refusal> {
+    Ok((update(tuple, list, base)?, undo(tuple, list, base)?))
+}
+
 /// The undo list of an update with these inputs, with 17 for one above the limits.
 pub fn undo(tuple: &[u8], list: &[u8], base: u64) -> Result<Vec<u8>, Refusal> {
     let operations = run(tuple, list, base)?.1;

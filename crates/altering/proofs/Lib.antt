@@ -1,2 +1,0 @@
--- The laws of altered fields, each once. Assumes nothing.
-pub mod Edits

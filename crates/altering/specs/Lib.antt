@@ -1,2 +1,0 @@
--- What an action makes of a field that it alters.
-pub mod Edits

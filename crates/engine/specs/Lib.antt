@@ -1,3 +1,0 @@
--- What scratch array and table hold, before an edit and after it.
-pub mod Held
-pub mod Decision

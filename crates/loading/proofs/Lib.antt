@@ -1,3 +1,0 @@
--- The laws of loading, each once. Assumes nothing.
-pub mod Measures
-pub mod Judged

@@ -1,2 +1,0 @@
--- A tuple judged, and its fields laid out.
-pub mod Loading

@@ -1,2 +1,0 @@
--- What a buffer holds after some of its elements were replaced in place.
-pub mod Splice

@@ -1,2 +1,0 @@
--- What an operation plans, and what its plan does.
-pub mod Plan

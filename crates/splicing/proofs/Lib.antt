@@ -1,2 +1,0 @@
--- The laws of spliced strings, each once. Assumes nothing.
-pub mod Strings

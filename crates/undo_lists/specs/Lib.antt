@@ -1,3 +1,0 @@
--- An undo list, laid from the end of a buffer towards its front.
-pub mod Laying
-pub mod Inverse

@@ -1,0 +1,3 @@
+-- A field altered, and spliced strings.
+pub mod Altering
+pub mod Splicing

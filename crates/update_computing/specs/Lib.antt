@@ -1,0 +1,2 @@
+-- Computed numbers.
+pub mod Computing

@@ -1,0 +1,3 @@
+-- What a list came to, written into lent buffers.
+pub mod Delivering
+pub mod Gathering

@@ -1,0 +1,2 @@
+-- A tuple judged, and its fields as places.
+pub mod Loading

@@ -1,0 +1,5 @@
+-- The laws of places. Assumes nothing.
+pub mod Places
+pub mod Runs
+pub mod Kept
+pub mod Chains

@@ -1,0 +1,2 @@
+-- What an operation plans.
+pub mod Plan

@@ -1,0 +1,2 @@
+-- A table of places, edited.
+pub mod Table
