@@ -10,7 +10,7 @@ from listing_cases import PING
 from notation import packed
 from sessions import CARRY_ROOM, Session
 from session_cases import ALL
-from update_cases import nested, one, operation, operations, text
+from update_cases import enough, nested, one, operation, operations, text
 from updates import plain
 
 C1 = b"\xc1"
@@ -240,6 +240,6 @@ def lines():
     for s, what in frames():
         yield "f\t%s\t%s" % (packed(s), what)
     for t, s, base, what in itertools.chain(tuples(), lists()):
-        yield "u\t%s\t%s\t%d\t40000\t%s" % (packed(t), packed(s), base, what)
+        yield "u\t%s\t%s\t%d\t%d\t%s" % (packed(t), packed(s), base, enough(t, s, base), what)
     for session, stand, s, steps, what in runs():
         yield session_cases.line(CARRY_ROOM, session, stand, s, steps, what)

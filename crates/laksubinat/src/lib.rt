@@ -22,8 +22,7 @@ ghost use Rattle.tuples.specs.Tuple.{Fields, fieldsOf};
 ghost use Rattle.tuples.specs.Call.{updateCall, undoCall};
 ghost use Rattle.tuples.specs.Press.{pressCall, GoesInAlike};
 ghost use Rattle.tuples.specs.Sequence.{Event, Demand3};
-ghost use Rattle.update_answers.specs.Seen.{seen};
-ghost use Rattle.updates.specs.Telling.{pressSeen};
+ghost use Rattle.update_answers.specs.Seen.{seen, pressSeen};
 ghost use Rattle.laksubinat.specs.Shown.{result};
 
 // The value at the front of `bytes`, held to depth 16; nothing past its end is judged.

@@ -4,7 +4,9 @@ use Rattle.msgpack_first_bytes.specs.Bytes.{Bytes}
 use Rattle.msgpack_values.specs.Spoiled.{noPlace}
 use Rattle.msgpack_values.specs.declared.OptionalNumber.{OptionalNumber}
 use Rattle.tuples.specs.Call.{numberOf, Result}
+use Rattle.tuples.specs.Press.{PressResult}
 use Rattle.tuples.specs.declared.Answer.{Answer}
+use Rattle.tuples.specs.declared.PressAnswer.{PressAnswer}
 use Rattle.tuples.specs.declared.Refusal.{Refusal}
 
 abbrev pub seen : Answer → Bytes → Result
@@ -17,3 +19,8 @@ refusalOf k i = record { number = numberOf k; operation = i; length = 0; place =
 -- an answer with another place
 abbrev pub answerAt : OptionalNumber → Answer → Answer
 answerAt p r = record { number = r .number; operation = r .operation; length = r .length; place = p }
+
+-- of a press, both lent buffers
+abbrev pub pressSeen : PressAnswer → Bytes → Bytes → PressResult
+pressSeen r out un =
+    record { number = r .number; operation = r .operation; length = r .length; undoLength = r .«undo_length»; place = r .place; buffer = out; undoBuffer = un }

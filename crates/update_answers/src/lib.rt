@@ -4,10 +4,8 @@ use msgpack_values::OptionalNumber;
 use tuples::Answer;
 use tuples::Refusal;
 ghost use mathlib.Core.Path.{_≡_};
-ghost use mathlib.Core.List.{_++_};
-ghost use Rattle.msgpack_writing.specs.Forms.{arrayHeader};
-ghost use Rattle.tuples.specs.Call.{numberOf, bytes, delivered, spoiledIn};
-ghost use Rattle.update_answers.specs.Seen.{refusalOf, answerAt, seen};
+ghost use Rattle.tuples.specs.Call.{numberOf, spoiledIn};
+ghost use Rattle.update_answers.specs.Seen.{refusalOf, answerAt};
 
 fn number_of(refusal: Refusal) -> u32
     ensures { λ r. ⌜ r ≡ numberOf refusal ⌝ }
@@ -31,24 +29,6 @@ pub fn refused(refusal: Refusal, operation: u32) -> Answer
         number: number_of(refusal),
         operation,
         length: 0,
-        place: NO_PLACE,
-    }
-}
-
-// The array of `count` values that lie back to back, into the lent buffer.
-pub fn deliver(count: u32, values: &[u8], out: &mut [u8]) -> Answer
-    ensures { λ r. ⌜ seen r (now (out .exit)) ≡ delivered (bytes (arrayHeader count ++ now (values .entry))) (now (out .entry)) ⌝ }
-{
-    let length = msgpack_writing::array_header_length(count) + values.len();
-    if out.len() < length {
-        return refused(Refusal::ShortBuffer, 0);
-    }
-    let at = msgpack_writing::write_array_header(out, 0, count);
-    msgpack_writing::write_bytes(out, at, values);
-    Answer {
-        number: 0,
-        operation: 0,
-        length,
         place: NO_PLACE,
     }
 }

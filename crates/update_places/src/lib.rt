@@ -43,25 +43,6 @@ pub fn part_of(s: &[u8], from: usize, n: usize) -> &[u8]
     &s[from..end]
 }
 
-// n bytes from a start on.
-pub fn bytes_from<'a>(
-    tuple: &'a [u8],
-    list: &'a [u8],
-    work: &'a [u8],
-    at: usize,
-    n: usize,
-) -> &'a [u8]
-    ensures { λ r. ⌜ now r ≡ bytesFrom (now (tuple .entry)) (now (list .entry)) (now (work .entry)) at n ⌝ }
-{
-    if at < IN_LIST {
-        return part_of(tuple, at, n);
-    }
-    if at < IN_WORK {
-        return part_of(list, at - IN_LIST, n);
-    }
-    part_of(work, at - IN_WORK, n)
-}
-
 // A copy of n bytes from a start on, into the rest of a buffer.
 pub fn copy_from(
     tuple: &[u8],

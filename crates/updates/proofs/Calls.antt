@@ -26,7 +26,7 @@ use Rattle.tuples.proofs.Decode.{list-fine}
 use Rattle.tuples.proofs.Sound.{plans-sound}
 use Rattle.tuples.proofs.Taking.{run-undone}
 use Rattle.tuples.proofs.Tuple.{fields-legal}
-use Rattle.update_answers.specs.Seen.{seen}
+use Rattle.update_answers.specs.Seen.{seen, pressSeen}
 use Rattle.update_operations.specs.Listing.{front}
 use Rattle.update_operations.specs.declared.Listed.{Listed, the-variants.Good, the-variants.Bad}
 use Rattle.update_operations.proofs.Listing.{good, bad}
@@ -39,7 +39,7 @@ use Rattle.update_delivering.specs.declared.Tried.{Tried, the-variants.NoRoom a
 use Rattle.update_delivering.specs.declared.Pressed.{Pressed, the-variants.NoRoom as NoPress, the-variants.Refused as Declined, the-variants.Written as Both}
 use Rattle.updates.specs.declared.Front.{Front}
 use Rattle.updates.specs.declared.Call.{Call, the-variants.NoRoom, the-variants.Refused, the-variants.Written}
-use Rattle.updates.specs.Telling.{Fronts, cameOf, callOf, Tells, Told, ToldOrLong, PressTells, PressToldOrLong, Refuses, answerBy, FewIn, pressAnswerBy, pressSeen}
+use Rattle.updates.specs.Telling.{Fronts, cameOf, callOf, Tells, Told, ToldOrLong, PressTells, PressToldOrLong, Refuses, answerBy, FewIn, pressAnswerBy}
 
 -- ---- the front of a list
 

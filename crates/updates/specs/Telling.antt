@@ -87,8 +87,3 @@ FewIn (Written n) = Unit {0}
 
 abbrev pub pressAnswerBy : Answer → ℕ → PressAnswer
 pressAnswerBy a n = record { number = a .number; operation = a .operation; length = a .length; «undo_length» = n; place = a .place }
-
--- what a caller sees of a press: the answer, and both buffers afterwards
-abbrev pub pressSeen : PressAnswer → Bytes → Bytes → PressResult
-pressSeen r out un =
-    record { number = r .number; operation = r .operation; length = r .length; undoLength = r .«undo_length»; place = r .place; buffer = out; undoBuffer = un }

@@ -17,10 +17,10 @@ ghost use lib.ListN.{length};
 ghost use Rattle.tuples.specs.Call.{update, undo, updateCall, undoCall};
 ghost use Rattle.tuples.specs.Press.{press, pressCall};
 ghost use Rattle.tuples.specs.Limits.{maxTuple};
-ghost use Rattle.update_answers.specs.Seen.{seen};
+ghost use Rattle.update_answers.specs.Seen.{seen, pressSeen};
 ghost use Rattle.update_running.specs.Carrying.{tableRoom};
 ghost use Rattle.update_delivering.specs.Delivering.{longBy};
-ghost use Rattle.updates.specs.Telling.{Fronts, cameOf, callOf, Tells, Told, ToldOrLong, PressToldOrLong, Refuses, answerBy, FewIn, pressAnswerBy, pressSeen};
+ghost use Rattle.updates.specs.Telling.{Fronts, cameOf, callOf, Tells, Told, ToldOrLong, PressToldOrLong, Refuses, answerBy, FewIn, pressAnswerBy};
 
 // Where a list has at most so many bytes, the short arrays are tried.
 const SHORT_LIST: usize = 512;

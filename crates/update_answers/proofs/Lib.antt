@@ -1,2 +1,0 @@
--- The laws of answers, each once. Assumes nothing.
-pub mod Written
