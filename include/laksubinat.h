@@ -12,7 +12,7 @@
  *   - Accepted: `length` bytes were written or read, of a press's undo list `undo_length`. Bytes of
  *     `out` and `undo` past them are unchanged.
  *   - Nothing is kept between calls, no memory is allocated, and no other memory is written; so
- *     any thread may call. Stack, measured: lak_undo and lak_press 130 KB, lak_update 74 KB,
+ *     any thread may call. Stack, measured: lak_undo and lak_press 121 KB, lak_update 53 KB,
  *     lak_frame_read and lak_session_feed 8 KB; the others less than 4 KB.
  *
  * `place` is where a value broke: the first byte that spoils it. That is an unused first byte (c1),

@@ -5,7 +5,7 @@
 //! Slices go in; enums, structs and lengths come out. A refusal is an [`Error`] with its number and, where a value broke,
 //! its place, and leaves every byte of the lent buffers as it was. After an accepted call, bytes past the written length
 //! are unchanged. The functions keep nothing between calls and allocate nothing, so any thread may call; the deepest,
-//! [`undo`] and [`press`], take 130 KB of stack. A [`Session`] is fed bytes as they come, and keeps a frame that is begun
+//! [`undo`] and [`press`], take 121 KB of stack. A [`Session`] is fed bytes as they come, and keeps a frame that is begun
 //! in a buffer of its own.
 //!
 //! A press arrives: `^` with 1 on field 0. [`press`] writes the new tuple and the list that takes it back, and an update
