@@ -1,8 +1,7 @@
 /*
  * laksubinat.h: Tarantool's frames and MessagePack values read and written, frames taken as a line
- * delivers them, tuples updated and upserted, and both taken back. Link
- * target/staticlib/liblaksubinat.a (`rt staticlib laksubinat`), for x86-64 Linux. Valid C99 and
- * C++11.
+ * delivers them, tuples updated, and updates taken back. Link target/staticlib/liblaksubinat.a
+ * (`rt staticlib laksubinat`), for x86-64 Linux. Valid C99 and C++11.
  *
  * What holds of every call, for all bytes, however damaged:
  *   - It ends and answers. `number` is 0 (LAK_OK), or the number of the one refusal that is due.
@@ -22,10 +21,9 @@
  *   - with 4 in reading: counted from the value's first byte, or from that of the frame, whose
  *     bytes end where its size says, also where more are lent;
  *   - with 11 where the tuple, read as one value at most 13 deep, is broken, and with 12 where the
- *     list is, at most 14 deep: counted from its first byte, whatever else is wrong beside it. Of an
- *     upsert's two tuples it is that of the one refused, the given one where both are.
+ *     list is, at most 14 deep: counted from its first byte, whatever else is wrong beside it.
  * Else it is absent, all 0. Bytes left over after a whole value do not break it; 11 says nothing of
- * the list, nor of a found tuple where the given one is refused; lak_frame_write gives no place.
+ * the list; lak_frame_write gives no place.
  *
  * What the caller owes, since C cannot ask for it and the proofs assume it:
  *   - A pointer is valid for the length beside it: inputs to be read, `out`, a press's `undo` and a
@@ -274,34 +272,6 @@ lak_answer lak_undo(const uint8_t *tuple, size_t n, const uint8_t *list, size_t 
  * does not ask for 17. */
 lak_press_answer lak_press(const uint8_t *tuple, size_t n, const uint8_t *list, size_t m, uint64_t index_base,
                            uint8_t *out, size_t room, uint8_t *undo, size_t undo_room);
-
-/* An upsert. Where a record was found, the list's operations on its tuple, left to right; the new
- * tuple into `out`. Where none was, the given tuple into `out`, its own bytes: the list is judged, no
- * operation runs, and there is no undo list. What an upsert does otherwise than an update:
- *   - Its marks are + - = ! # alone; any other is refused with 12.
- *   - A field below the first is refused with 13. ! inserts up to one past the last field and is
- *     skipped beyond it; any other operation whose field is absent is skipped, so = never appends.
- *   - + and - on a field that is no number start from 0; on a float they are refused with 14. A
- *     result above 2^64-1 has 2^64 taken off, one below -2^63 has it added: 15 never comes.
- * Both tuples and the list are judged whether they are used or not. Refuses: 11 of the given tuple,
- * 11 of the found one, 12, then for each operation 13, 14, 16; then 18. Where `found` is false,
- * `tuple` is not looked at, and only 11 of the given tuple, 12 and 18 are left; it may be NULL with n
- * of 0. */
-lak_answer lak_upsert(const uint8_t *given, size_t g, bool found, const uint8_t *tuple, size_t n, const uint8_t *list,
-                      size_t m, uint64_t index_base, uint8_t *out, size_t room);
-
-/* The list that takes that upsert of a found record back, on the same inputs, into `out`: lak_update
- * on the new tuple with this list and index base 0 gives the found fields, byte for byte. A skipped
- * operation adds nothing to it. Refuses as lak_upsert does, with 17 before 18. */
-lak_answer lak_upsert_undo(const uint8_t *given, size_t g, const uint8_t *tuple, size_t n, const uint8_t *list,
-                           size_t m, uint64_t index_base, uint8_t *out, size_t room);
-
-/* Both in one run, for a found record: the new tuple into `out` as lak_upsert writes it, its undo
- * list into `undo` as lak_upsert_undo does; or neither, as with lak_press. Refuses as
- * lak_upsert_undo does, with 18 where either buffer is too short. */
-lak_press_answer lak_upsert_press(const uint8_t *given, size_t g, const uint8_t *tuple, size_t n, const uint8_t *list,
-                                  size_t m, uint64_t index_base, uint8_t *out, size_t room, uint8_t *undo,
-                                  size_t undo_room);
 
 /* A refusal's words for people. */
 static inline const char *lak_words(uint32_t number)

@@ -1,13 +1,11 @@
 #!/usr/bin/env python3
-"""A second implementation of updates, upserts and their undo lists, written from documents 01 and 02 (3/12, 4/12) and sharing no
-code with the library.
+"""A second implementation of updates and undo lists, written from documents 01 and 02 (3/12) and sharing no code with the
+library.
 
   update(tuple, list, base, room) -> (number, operation, bytes, place)
   undo(tuple, list, base, room)   -> (number, operation, bytes, place)
   press(tuple, list, base, room, undo room) -> (number, operation, tuple's bytes, undo list's bytes, place)
-  upsert(given, found or None, list, base, room), upsert_undo(given, found, list, base, room),
-  upsert_press(given, found, list, base, room, undo room) -> the same
-A place is that of the byte that spoils the tuple (11; of two the one that is refused) or the list (12), or None.
+A place is that of the byte that spoils the tuple (11) or the list (12), or None.
 """
 from frames import shortest
 from values import Broken, end_of, first, spoiled_at
@@ -16,18 +14,10 @@ MAX_FIELDS, MAX_TUPLE, FIELD_DEPTH = 64, 16384, 12
 MAX_OPERATIONS, MAX_LIST = 64, 32768
 # 02, 3/12: "Here a tuple is one value to depth 13, a list to depth 14"
 TUPLE_DEPTH, LIST_DEPTH = 13, 14
-MARKS, UPSERT_MARKS = "+-&^|=!#:", "+-=!#"
-
-
-class Outside(Exception):
-    """A tuple or a list is outside the rules."""
 
 
 class Refused(Exception):
-    """A refusal's number, the operation's index and the place."""
-
-    def __init__(self, number, operation=0, place=None):
-        super().__init__(number, operation, place)
+    """A refusal's number and the operation's index."""
 
 
 def count_at(s, at):
@@ -70,32 +60,35 @@ def value_at(s, at):
     return s[at:end], end
 
 
-def asked(condition):
-    if not condition:
-        raise Outside
-
-
 def fields_of(t):
+    """11"""
     got = count_at(t, 0)
-    asked(len(t) <= MAX_TUPLE and got is not None and got[0] <= MAX_FIELDS)
+    if len(t) > MAX_TUPLE or got is None or got[0] > MAX_FIELDS:
+        raise Refused(11, 0)
     n, at = got
     fields = []
     for _ in range(n):
         got = value_at(t, at)
-        asked(got is not None)
+        if got is None:
+            raise Refused(11, 0)
         fields.append(got[0])
         at = got[1]
-    asked(at == len(t))
+    if at != len(t):
+        raise Refused(11, 0)
     return fields
 
 
-def operation_at(s, at, base, marks):
+def asked(condition):
+    if not condition:
+        raise Refused(12, 0)
+
+
+def operation_at(s, at, base):
     got = count_at(s, at)
     asked(got is not None)
     n, at = got
     asked(at + 2 <= len(s) and s[at] == 0xA1)
     mark = chr(s[at + 1])
-    asked(mark in marks)
     got = integer_at(s, at + 2)
     asked(got is not None)
     f, at = got[0] - base, got[1]
@@ -118,34 +111,18 @@ def operation_at(s, at, base, marks):
     return (mark, f, (position[0] - base, count[0], argument[0])), argument[1]
 
 
-def operations_of(s, base, marks):
+def operations_of(s, base):
+    """12"""
     asked(base in (0, 1) and len(s) <= MAX_LIST)
     got = count_at(s, 0)
     asked(got is not None and got[0] <= MAX_OPERATIONS)
     n, at = got
     operations = []
     for _ in range(n):
-        operation, at = operation_at(s, at, base, marks)
+        operation, at = operation_at(s, at, base)
         operations.append(operation)
     asked(at == len(s))
     return operations
-
-
-def judged(number, depth, read, s, *more):
-    """What is read of a tuple or a list; a refusal has a place where the bytes, read as one value, are broken, whatever else is
-    wrong with them."""
-    try:
-        return read(s, *more)
-    except Outside:
-        raise Refused(number, 0, spoiled_at(s, depth))
-
-
-def tuple_in(t):
-    return judged(11, TUPLE_DEPTH, fields_of, t)
-
-
-def list_in(s, base, marks):
-    return judged(12, LIST_DEPTH, operations_of, s, base, marks)
 
 
 def array_header(n):
@@ -178,146 +155,95 @@ def plain(fields):
     return array_header(len(fields)) + b"".join(fields)
 
 
-def edited(fields, mark, f, argument):
-    """The fields after `=` or `#` on a field that is there, or after `!`; and the operations that take it back."""
-    if mark == "!":
-        return fields[:f] + [argument] + fields[f:], [("#", f, shortest(1))]
-    if mark == "#":
-        return fields[:f] + fields[f + argument :], [("!", f, x) for x in reversed(fields[f : f + argument])]
-    return fields[:f] + [argument] + fields[f + 1 :], [("=", f, fields[f])]
-
-
-def spliced(old, argument, i):
-    got = string_at(old, 0)
-    if got is None:
-        raise Refused(14, i)
-    p, count, piece = argument
-    return string(got[0][:p] + piece + got[0][p:][count:])
-
-
-def computed(old, mark, argument, i):
-    got = integer_at(old, 0)
-    if got is None or (mark in "&^|" and got[0] < 0):
-        raise Refused(14, i)
-    x = got[0]
-    z = {"+": x + argument, "-": x - argument, "&": x & argument, "^": x ^ argument, "|": x | argument}[mark]
-    if not -(2**63) <= z < 2**64:
-        raise Refused(15, i)
-    return integer(z)
-
-
 def step(fields, operation, i):
-    """An operation of an update, done by one of the three of `edited`."""
+    """The fields after an operation, and the operations that take it back."""
     mark, f, argument = operation
     n = len(fields)
     if f < 0 or f > n or (f == n and mark not in "=!"):
         raise Refused(13, i)
-    if mark == "=" and f == n:
-        return edited(fields, "!", f, argument)
-    if mark in "=!#":
-        return edited(fields, mark, f, argument)
-    return edited(fields, "=", f, spliced(fields[f], argument, i) if mark == ":" else computed(fields[f], mark, argument, i))
+    if mark in "=!" and (mark == "!" or f == n):
+        after, back = fields[:f] + [argument] + fields[f:], [("#", f, shortest(1))]
+    elif mark == "#":
+        removed = fields[f : f + argument]
+        after, back = fields[:f] + fields[f + argument :], [("!", f, x) for x in reversed(removed)]
+    else:
+        old = fields[f]
+        if mark == "=":
+            new = argument
+        elif mark == ":":
+            got = string_at(old, 0)
+            if got is None:
+                raise Refused(14, i)
+            p, count, piece = argument
+            new = string(got[0][:p] + piece + got[0][p:][count:])
+        else:
+            got = integer_at(old, 0)
+            if got is None or (mark in "&^|" and got[0] < 0):
+                raise Refused(14, i)
+            x = got[0]
+            z = {"+": x + argument, "-": x - argument, "&": x & argument, "^": x ^ argument, "|": x | argument}[mark]
+            if not -(2**63) <= z < 2**64:
+                raise Refused(15, i)
+            new = integer(z)
+        after, back = fields[:f] + [new] + fields[f + 1 :], [("=", f, old)]
+    if len(after) > MAX_FIELDS or len(plain(after)) > MAX_TUPLE:
+        raise Refused(16, i)
+    return after, back
 
 
-def wrapped(z):
-    """02, 4/12: "above 2^64-1, 2^64 is taken off; below -2^63 it is added"."""
-    return z - 2**64 if z > 2**64 - 1 else z + 2**64 if z < -(2**63) else z
-
-
-def moved(old, mark, argument, i):
-    """02, 4/12: "`+` or `-` on a field that is not a number starts from 0. A float there is refused with 14"."""
-    if first(old[0])[0] in ("float32", "float64"):
-        raise Refused(14, i)
-    got = integer_at(old, 0)
-    x = 0 if got is None else got[0]
-    return integer(wrapped(x + argument if mark == "+" else x - argument))
-
-
-def upsert_step(fields, operation, i):
-    """An operation of an upsert: "`!` inserts up to f = n and is skipped past it, any other whose field is absent is skipped"."""
-    mark, f, argument = operation
-    n = len(fields)
-    if f < 0:
-        raise Refused(13, i)
-    if f > n or (f == n and mark != "!"):
-        return fields, []
-    if mark in "+-":
-        return edited(fields, "=", f, moved(fields[f], mark, argument, i))
-    return edited(fields, mark, f, argument)
-
-
-def run(fields, operations, step):
-    """The fields after a list, and the operations that take it back."""
+def run(t, s, base):
+    fields = fields_of(t)
+    operations = operations_of(s, base)
     back = []
     for i, operation in enumerate(operations):
         fields, own = step(fields, operation, i)
-        if len(fields) > MAX_FIELDS or len(plain(fields)) > MAX_TUPLE:
-            raise Refused(16, i)
         back = own + back
     return fields, back
 
 
+def refusal(refused, t, s):
+    """11 and 12 have a place where the tuple or the list, read as one value, is broken, whatever else is wrong with it."""
+    number, operation = refused.args
+    place = spoiled_at(t, TUPLE_DEPTH) if number == 11 else spoiled_at(s, LIST_DEPTH) if number == 12 else None
+    return number, operation, b"", place
+
+
+def deliver(b, room):
+    return (0, 0, b, None) if len(b) <= room else (18, 0, b"", None)
+
+
 def undo_list(back):
-    u = plain([b"\x93\xa1" + mark.encode() + shortest(f) + argument for mark, f, argument in back])
-    if len(back) > MAX_OPERATIONS or len(u) > MAX_LIST:
-        raise Refused(17)
-    return u
-
-
-def answered(made, *rooms):
-    """What a call answers: the bytes made for each lent buffer, or a refusal; 18 where any of the buffers is too short."""
-    try:
-        written = made()
-        if any(len(b) > room for b, room in zip(written, rooms)):
-            raise Refused(18)
-        return 0, 0, *written, None
-    except Refused as refused:
-        number, operation, place = refused.args
-        return number, operation, *[b""] * len(rooms), place
-
-
-def updated(t, s, base):
-    return run(tuple_in(t), list_in(s, base, MARKS), step)
-
-
-def upserted(given, t, s, base):
-    tuple_in(given)
-    return run(tuple_in(t), list_in(s, base, UPSERT_MARKS), upsert_step)
-
-
-def not_found(given, s, base):
-    """02, 4/12: "the given tuple's bytes are the result", and tuple and list are judged "whether used or not"."""
-    tuple_in(given)
-    list_in(s, base, UPSERT_MARKS)
-    return given
-
-
-def both(fields, back):
-    return plain(fields), undo_list(back)
+    return plain([b"\x93\xa1" + mark.encode() + shortest(f) + argument for mark, f, argument in back])
 
 
 def update(t, s, base, room):
-    return answered(lambda: [plain(updated(t, s, base)[0])], room)
+    try:
+        return deliver(plain(run(t, s, base)[0]), room)
+    except Refused as refused:
+        return refusal(refused, t, s)
 
 
 def undo(t, s, base, room):
-    return answered(lambda: [undo_list(updated(t, s, base)[1])], room)
+    try:
+        back = run(t, s, base)[1]
+    except Refused as refused:
+        return refusal(refused, t, s)
+    u = undo_list(back)
+    if len(back) > MAX_OPERATIONS or len(u) > MAX_LIST:
+        return 17, 0, b"", None
+    return deliver(u, room)
 
 
 def press(t, s, base, room, undo_room):
     """Both or neither: "11, 12, per operation 13 to 16, then 17, then 18 for either buffer"."""
-    return answered(lambda: both(*updated(t, s, base)), room, undo_room)
-
-
-def upsert(given, found, s, base, room):
-    if found is None:
-        return answered(lambda: [not_found(given, s, base)], room)
-    return answered(lambda: [plain(upserted(given, found, s, base)[0])], room)
-
-
-def upsert_undo(given, found, s, base, room):
-    return answered(lambda: [undo_list(upserted(given, found, s, base)[1])], room)
-
-
-def upsert_press(given, found, s, base, room, undo_room):
-    return answered(lambda: both(*upserted(given, found, s, base)), room, undo_room)
+    try:
+        fields, back = run(t, s, base)
+    except Refused as refused:
+        number, operation, _, place = refusal(refused, t, s)
+        return number, operation, b"", b"", place
+    w, u = plain(fields), undo_list(back)
+    if len(back) > MAX_OPERATIONS or len(u) > MAX_LIST:
+        return 17, 0, b"", b"", None
+    if len(w) > room or len(u) > undo_room:
+        return 18, 0, b"", b"", None
+    return 0, 0, w, u, None

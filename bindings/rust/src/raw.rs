@@ -118,11 +118,11 @@ pub struct Answer {
     pub operation: u32,
     /// How many bytes were written, 0 where refused.
     pub length: u64,
-    /// Of 11 where the refused tuple broke, of 12 where the list broke, counted from its first byte; else absent.
+    /// Of 11 where the tuple broke, of 12 where the list broke, counted from its first byte; else absent.
     pub place: Number,
 }
 
-/// The answer of [`lak_press`] and [`lak_upsert_press`].
+/// The answer of [`lak_press`].
 #[repr(C)]
 #[derive(Clone, Copy, Debug, Default, PartialEq, Eq)]
 pub struct PressAnswer {
@@ -134,7 +134,7 @@ pub struct PressAnswer {
     pub length: u64,
     /// How many bytes the undo list has, 0 where refused.
     pub undo_length: u64,
-    /// Of 11 where the refused tuple broke, of 12 where the list broke, counted from its first byte; else absent.
+    /// Of 11 where the tuple broke, of 12 where the list broke, counted from its first byte; else absent.
     pub place: Number,
 }
 
@@ -201,45 +201,6 @@ extern "C" {
     ) -> Answer;
     /// Writes both, the tuple and the undo list, or neither.
     pub fn lak_press(
-        tuple: *const u8,
-        n: usize,
-        list: *const u8,
-        m: usize,
-        index_base: u64,
-        out: *mut u8,
-        room: usize,
-        undo: *mut u8,
-        undo_room: usize,
-    ) -> PressAnswer;
-    /// Writes the tuple that an upsert list makes of a found tuple; the given one where none was found.
-    pub fn lak_upsert(
-        given: *const u8,
-        g: usize,
-        found: bool,
-        tuple: *const u8,
-        n: usize,
-        list: *const u8,
-        m: usize,
-        index_base: u64,
-        out: *mut u8,
-        room: usize,
-    ) -> Answer;
-    /// Writes the undo list of an upsert of a found tuple with these inputs.
-    pub fn lak_upsert_undo(
-        given: *const u8,
-        g: usize,
-        tuple: *const u8,
-        n: usize,
-        list: *const u8,
-        m: usize,
-        index_base: u64,
-        out: *mut u8,
-        room: usize,
-    ) -> Answer;
-    /// Writes both, of an upsert of a found tuple, or neither.
-    pub fn lak_upsert_press(
-        given: *const u8,
-        g: usize,
         tuple: *const u8,
         n: usize,
         list: *const u8,

@@ -133,9 +133,9 @@ signed-short b (suc f) t s o h =
     (λ k. let m = negative_mono (2 ^ (8 * suc f) - 1 - n) (bottom (suc f)) (omega arith) (omega arith) in omega arith)
 
 -- in every form that is read as an integer, the signed ones of numbers from 0 up too
-integer-shortest : (s : Bytes) → Octets s → (z : Int) (k : ℕ) → integer s ≡ IsInt z k → length (integer_form z) ≤ k
+integer_shortest : (s : Bytes) → Octets s → (z : Int) (k : ℕ) → integer s ≡ IsInt z k → length (integer_form z) ≤ k
 unfolding integer adding unsigned unsigned_by signed signed_by same_kind form_of unsigned_form negative_form big_endian
-integer-shortest s o z k e = go (due Unsigned s) refl (due Signed s) refl e
+integer_shortest s o z k e = go (due Unsigned s) refl (due Signed s) refl e
   where
     go : (d : Due) → due Unsigned s ≡ d → (c : Due) → due Signed s ≡ c → adding (unsigned_by d s) (signed_by c s) ≡ IsInt z k → length (integer_form z) ≤ k
     go (More f) q c r e =
@@ -154,7 +154,7 @@ pub shortest : Shortest
 unfolding same_kind form_of string_header array_header map_header big_endian
 shortest =
     record {
-      number = integer-shortest;
+      number = integer_shortest;
       string = header-short string_header string_mono string_by tt;
       array = header-short array_header array_mono array_by tt;
       entries = header-short map_header map_mono map_by tt;

@@ -11,12 +11,10 @@ use lib.Seq.{take-append_seam}
 use Rattle.msgpack_first_bytes.specs.Bytes.{Bytes, pick}
 use Rattle.tuples.specs.Limits.{max_operations, max_list}
 use Rattle.tuples.specs.Tuple.{Fields, plain, fields_of}
-use Rattle.tuples.specs.Operation.{of_update, Operation, operations_of}
+use Rattle.tuples.specs.Operation.{Operation, operations_of}
 use Rattle.tuples.specs.Edit.{plans, Run, refused, done, run, undo_of}
-use Rattle.tuples.specs.Call.{number_of, Outcome, refusal, bytes, judged, on_run, update_of, limited_list, undo_list_of, applied, taken_back, update, refusing, writing, delivered, spoiled_in, with_place}
-use Rattle.tuples.specs.Upsert.{given}
+use Rattle.tuples.specs.Call.{number_of, Outcome, refusal, bytes, judged, on_run, update_of, limited_list, undo_list_of, update, undo, refusing, writing, delivered, spoiled_in, with_place}
 use Rattle.tuples.specs.Sequence.{State, on_answer}
-use Rattle.tuples.specs.declared.Rules.{Rules}
 use Rattle.tuples.specs.declared.Refusal.{Refusal}
 use Rattle.tuples.specs.declared.Refusal.TheVariants.{BadTuple, BadList, NoField, Unsuited, OutOfRange, TooLarge, LongUndo, ShortBuffer}
 use Rattle.msgpack_first_bytes.proofs.Logic.{impossible}
@@ -32,10 +30,10 @@ abbrev pub TakesBack : Bytes → Fields → Fields → Type 0
 TakesBack u gs fs = (t : Bytes) → fields_of t ≡ some gs → update t u 0 ≡ bytes (plain fs)
 
 takes_back_lem : {us : List Bytes} {gs fs : Fields} → length us ≤ max_operations → length (plain us) ≤ max_list → Takes us gs fs → TakesBack (plain us) gs fs
-unfolding update applied judged update_of on_run
+unfolding update judged update_of on_run
 takes_back_lem f s x t e = rw (e, list_back x.written f s) (rw (x.runs 0))
 
--- an update or an upsert of t that writes w and has the undo list u
+-- an update of t that writes w and has the undo list u
 pub record WentIn (t w u : Bytes) : Type 0 where
   pub fs : Fields
   pub gs : Fields
@@ -53,29 +51,23 @@ limited-bytes us u h = go (leb (length us) max_operations && leb (length (plain 
     go true e h = let (f, s) = both_hold _ _ e in (cc, leb-true _ _ f, leb-true _ _ s)
     go false e h = impossible (cc)
 
-pub went_in : (y : Rules) (t l w u : Bytes) → applied y t l ≡ bytes w → taken_back y t l ≡ bytes u → WentIn t w u
-unfolding applied taken_back judged update_of undo_list_of on_run
-went_in y t l w u h k = from-tuple (fields_of t) refl (operations_of y l) refl h k
+pub went_in : (t l : Bytes) (b : ℕ) (w u : Bytes) → update t l b ≡ bytes w → undo t l b ≡ bytes u → WentIn t w u
+unfolding update undo judged update_of undo_list_of on_run
+went_in t l b w u h k = from-tuple (fields_of t) refl (operations_of b l) refl h k
   where
-    from-run : (fs : Fields) (os : List Operation) → fields_of t ≡ some fs → operations_of y l ≡ some os → (r : Run) → run 0 (plans os) fs ≡ r
+    from-run : (fs : Fields) (os : List Operation) → fields_of t ≡ some fs → operations_of b l ≡ some os → (r : Run) → run 0 (plans os) fs ≡ r
         → on_run r (λ gs. bytes (plain gs)) ≡ bytes w → on_run r (λ gs. limited_list (undo_of (plans os) fs)) ≡ bytes u → WentIn t w u
     from-run fs os e q (refused c i) r h k = impossible (cc)
     from-run fs os e q (done gs) r h k =
         let (p, f, s) = limited-bytes (undo_of (plans os) fs) u k in
-        let x = run_undone (plans os) fs gs 0 (plans-sound (list_fine y l os q)) (fields-legal t fs e) r in
+        let x = run_undone (plans os) fs gs 0 (plans-sound (list_fine b l os q)) (fields-legal t fs e) r in
         record { fs = fs; gs = gs; read = e; legal = x.legal; output = cc; back = subst (λ (v : Bytes). TakesBack v gs fs) (sym p) (takes_back_lem f s x.takes) }
 
-    from-tuple : (o : Option Fields) → fields_of t ≡ o → (p : Option (List Operation)) → operations_of y l ≡ p
+    from-tuple : (o : Option Fields) → fields_of t ≡ o → (p : Option (List Operation)) → operations_of b l ≡ p
         → judged o p update_of ≡ bytes w → judged o p undo_list_of ≡ bytes u → WentIn t w u
     from-tuple none e p q h k = impossible (cc)
     from-tuple (some fs) e none q h k = impossible (cc)
     from-tuple (some fs) e (some os) q h k = from-run fs os e q (run 0 (plans os) fs) refl h k
-
--- what is written though the given tuple was judged before
-pub given-bytes : (fs : Option Fields) (o : Outcome) {w : Bytes} → given fs o ≡ bytes w → o ≡ bytes w
-unfolding given
-given-bytes none o h = impossible (cc)
-given-bytes (some fs) o h = h
 
 -- ---- what is written, and 18, have no place
 

@@ -21,9 +21,8 @@ use Rattle.msgpack_read_back.proofs.Back.{integer-back, array-header-back}
 use Rattle.tuples.specs.Limits.{field_depth, max_operations, max_list}
 use Rattle.tuples.specs.Tuple.{plain}
 use Rattle.tuples.specs.Decoding.{Got, fails, gets, Decoder, on_got, then, made, nothing, value_from, any_value, integer_from, any_integer, less, floor, at_least, position, string, count_from, count, mark}
-use Rattle.tuples.specs.Operation.{of_update, Action, plus, minus, and, xor, or, assign, insert, remove, splice, upsertPlus, upsertMinus, upsertAssign, upsertInsert, upsert_remove, Operation, three, five, upsert_three, action_of, operation, before, and_more, operations, list_by, operations_of}
+use Rattle.tuples.specs.Operation.{Action, plus, minus, and, xor, or, assign, insert, remove, splice, Operation, three, five, action_of, operation, before, and_more, operations, list_by, operations_of}
 use Rattle.tuples.specs.Edit.{operation_bytes}
-use Rattle.tuples.specs.declared.Rules.{Rules}
 use Rattle.msgpack_first_bytes.proofs.Logic.{impossible}
 use Rattle.tuples.proofs.Cases.{guarded}
 use Rattle.tuples.proofs.Whole.{single_front, single_take}
@@ -89,11 +88,6 @@ Fine (assign b) = Single (value field_depth) b
 Fine (insert b) = Single (value field_depth) b
 Fine (remove m) = Unit {0}
 Fine (splice p c a) = Unit {0}
-Fine (upsertPlus v) = Unit {0}
-Fine (upsertMinus v) = Unit {0}
-Fine (upsertAssign b) = Single (value field_depth) b
-Fine (upsertInsert b) = Single (value field_depth) b
-Fine (upsert_remove m) = Unit {0}
 
 three_fine : (c : ℕ) → Yields Fine (three c)
 unfolding three
@@ -111,26 +105,17 @@ five_fine : (base c : ℕ) → Yields Fine (five base c)
 unfolding five
 five_fine base c = by (eqb c 0x3a) (after (position base) (λ p. after (at_least 0) (λ k. of_any (splice p k) string (λ _. tt)))) no
 
-upsert-three_fine : (c : ℕ) → Yields Fine (upsert_three c)
-unfolding upsert_three
-upsert-three_fine c =
-    by (eqb c 0x2b) (of_any upsertPlus any_integer (λ _. tt))
-    (by (eqb c 0x2d) (of_any upsertMinus any_integer (λ _. tt))
-    (by (eqb c 0x3d) (of upsertAssign any_value value_yields)
-    (by (eqb c 0x21) (of upsertInsert any_value value_yields)
-    (by (eqb c 0x23) (of_any upsert_remove (at_least 1) (λ _. tt)) no))))
-
 abbrev pub FineOperation : Operation → Type 0
 FineOperation o = Fine o.action
 
-operation_fine : (r : Rules) → Yields FineOperation (operation r)
+operation_fine : (base : ℕ) → Yields FineOperation (operation base)
 unfolding operation action_of
-operation_fine r =
-    after count (λ n. after mark (λ c. after any_integer (λ z. of _ (action_of r n c)
-    (by r.upsert (by (eqb n 3) (upsert-three_fine c) no) (by (eqb n 3) (three_fine c) (by (eqb n 5) (five_fine r.base c) no))).on)))
+operation_fine base =
+    after count (λ n. after mark (λ c. after any_integer (λ z. of _ (action_of base n c)
+    (by (eqb n 3) (three_fine c) (by (eqb n 5) (five_fine base c) no)).on)))
 
-pub got_fine : (r : Rules) (s : Bytes) {o : Operation} {m : Bytes} → operation r s ≡ gets o m → FineOperation o
-got_fine r s e = subst (Of FineOperation) e ((operation_fine r).on s)
+pub got_fine : (base : ℕ) (s : Bytes) {o : Operation} {r : Bytes} → operation base s ≡ gets o r → FineOperation o
+got_fine base s e = subst (Of FineOperation) e ((operation_fine base).on s)
 
 pub data AllFine : List Operation → Type 0 where
   end : AllFine []
@@ -141,26 +126,26 @@ unfolding before
 before_some o none os h = impossible (cc)
 before_some o (some ps) os h = (ps, refl, cc)
 
-operations_fine : (r : Rules) (n : ℕ) (s : Bytes) (os : List Operation) → operations r n s ≡ some os → AllFine os
+operations_fine : (base n : ℕ) (s : Bytes) (os : List Operation) → operations base n s ≡ some os → AllFine os
 unfolding operations and_more
-operations_fine r zero [] os h = let e : [] ≡ os = cc in subst AllFine e end
-operations_fine r zero (b ∷ s) os h = impossible (cc)
-operations_fine r (suc n) s os h = go (operation r s) ((operation_fine r).on s) h (operations_fine r n)
+operations_fine base zero [] os h = let e : [] ≡ os = cc in subst AllFine e end
+operations_fine base zero (b ∷ s) os h = impossible (cc)
+operations_fine base (suc n) s os h = go (operation base s) ((operation_fine base).on s) h (operations_fine base n)
   where
-    go : (g : Got Operation) → Of FineOperation g → and_more g (operations r n) ≡ some os
-        → ((s : Bytes) (os : List Operation) → operations r n s ≡ some os → AllFine os) → AllFine os
+    go : (g : Got Operation) → Of FineOperation g → and_more g (operations base n) ≡ some os
+        → ((s : Bytes) (os : List Operation) → operations base n s ≡ some os → AllFine os) → AllFine os
     go fails q h ih = impossible (cc)
-    go (gets o m) q h ih =
-        let (ps, e, w) = before_some o (operations r n m) os h in
-        subst AllFine (sym w) (fine q (ih m ps e))
+    go (gets o r) q h ih =
+        let (ps, e, w) = before_some o (operations base n r) os h in
+        subst AllFine (sym w) (fine q (ih r ps e))
 
-pub list_fine : (r : Rules) (l : Bytes) (os : List Operation) → operations_of r l ≡ some os → AllFine os
+pub list_fine : (base : ℕ) (l : Bytes) (os : List Operation) → operations_of base l ≡ some os → AllFine os
 unfolding operations_of list_by
-list_fine r l os h = go (count l) (guarded (leb r.base 1 && leb (length l) max_list) (list_by r (count l)) os h).1
+list_fine base l os h = go (count l) (guarded (leb base 1 && leb (length l) max_list) (list_by base (count l)) os h).1
   where
-    go : (g : Got ℕ) → list_by r g ≡ some os → AllFine os
+    go : (g : Got ℕ) → list_by base g ≡ some os → AllFine os
     go fails h = impossible (cc)
-    go (gets n s) h = operations_fine r n s os (guarded (leb n max_operations) (operations r n s) os h).1
+    go (gets n s) h = operations_fine base n s os (guarded (leb n max_operations) (operations base n s) os h).1
 
 -- ---- what is written is read back
 
@@ -203,10 +188,10 @@ less_none n = rw (le-leb 0 n (omega arith)) (ap FromZero (omega arith))
 
 -- an operation of three, numbered from 0
 operation-back : (c f : ℕ) {argument : Bytes} {a : Action} → f < 2 ^ 64 → ReadAs (three c) argument a
-    → ReadAs (operation (of_update 0)) (operation_bytes c f argument) (record { number = FromZero f; action = a })
+    → ReadAs (operation 0) (operation_bytes c f argument) (record { number = FromZero f; action = a })
 unfolding operation operation_bytes action_of string_header
 operation-back c f {argument} {a} h x =
-    subst (λ (z : Int). ReadAs (operation (of_update 0)) (operation_bytes c f argument) (record { number = z; action = a })) (less_none f)
+    subst (λ (z : Int). ReadAs (operation 0) (operation_bytes c f argument) (record { number = z; action = a })) (less_none f)
     (first_then _ (count-back 3 (omega arith)) (first_then _ (mark-back c) (first_then _ (number-back f h) (made_of _ x))))
 
 -- the three that an undo list has
@@ -214,33 +199,33 @@ abbrev pub at : ℕ → Action → Operation
 at f a = record { number = FromZero f; action = a }
 
 module _ (f : ℕ) (h : f < 2 ^ 64) where
-  pub assign_back : (b : Bytes) → Single (value field_depth) b → ReadAs (operation (of_update 0)) (operation_bytes 0x3d f b) (at f (assign b))
+  pub assign_back : (b : Bytes) → Single (value field_depth) b → ReadAs (operation 0) (operation_bytes 0x3d f b) (at f (assign b))
   unfolding three
   assign_back b e = operation-back 0x3d f h (made_of assign (value-back b e))
 
-  pub insert_back : (b : Bytes) → Single (value field_depth) b → ReadAs (operation (of_update 0)) (operation_bytes 0x21 f b) (at f (insert b))
+  pub insert_back : (b : Bytes) → Single (value field_depth) b → ReadAs (operation 0) (operation_bytes 0x21 f b) (at f (insert b))
   unfolding three
   insert_back b e = operation-back 0x21 f h (made_of insert (value-back b e))
 
-  pub remove-back : ReadAs (operation (of_update 0)) (operation_bytes 0x23 f (unsigned_form 1)) (at f (remove 1))
+  pub remove-back : ReadAs (operation 0) (operation_bytes 0x23 f (unsigned_form 1)) (at f (remove 1))
   unfolding three
   remove-back = operation-back 0x23 f h (made_of remove one-back)
 
 -- bs are os, written one after the other
 pub data Written : List Bytes → List Operation → Type 0 where
   none_left : Written [] []
-  one_more : {b : Bytes} {o : Operation} {bs : List Bytes} {os : List Operation} → ReadAs (operation (of_update 0)) b o → Written bs os → Written (b ∷ bs) (o ∷ os)
+  one_more : {b : Bytes} {o : Operation} {bs : List Bytes} {os : List Operation} → ReadAs (operation 0) b o → Written bs os → Written (b ∷ bs) (o ∷ os)
 
 pub written-append : {bs cs : List Bytes} {os ps : List Operation} → Written bs os → Written cs ps → Written (bs ++ cs) (os ++ ps)
 written-append none_left q = q
 written-append (one_more e es) q = one_more e (written-append es q)
 
-operations-back : {bs : List Bytes} {os : List Operation} → Written bs os → operations (of_update 0) (length bs) (joined bs) ≡ some os
+operations-back : {bs : List Bytes} {os : List Operation} → Written bs os → operations 0 (length bs) (joined bs) ≡ some os
 unfolding operations joined and_more before
 operations-back none_left = refl
 operations-back (one_more {bs = bs} e es) = rw (e.off (joined bs)) (rw (operations-back es))
 
-pub list_back : {bs : List Bytes} {os : List Operation} → Written bs os → length bs ≤ max_operations → length (plain bs) ≤ max_list → operations_of (of_update 0) (plain bs) ≡ some os
+pub list_back : {bs : List Bytes} {os : List Operation} → Written bs os → length bs ≤ max_operations → length (plain bs) ≤ max_list → operations_of 0 (plain bs) ≡ some os
 unfolding operations_of list_by
 list_back {bs} w f l =
     let c : count (plain bs) ≡ gets (length bs) (joined bs) = unfold plain in (count-back (length bs) (omega arith)).off (joined bs) in

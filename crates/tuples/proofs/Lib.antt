@@ -9,4 +9,3 @@ pub mod Taking
 pub mod Calls
 pub mod Sequences
 pub mod Presses
-pub mod Wrapping

@@ -1,18 +1,15 @@
--- A press beside the update, or the upsert, and the undo of the same inputs. Assumes nothing.
+-- A press beside the update and the undo of the same inputs. Assumes nothing.
 use mathlib.Core.Path.{◌≡◌, refl, sym, ap, ◌∙◌}
 use mathlib.Core.Bool.{Bool, true, false, ◌&&◌}
-use mathlib.Core.Option.{some}
 use Prim.Native.Nat.{ℕ, ◌≤◌}
 use borrow.Author.Tests.{le-leb}
 use lib.Dec.{leb, eqb}
 use lib.ListN.{length, drop}
 use lib.Seq.{take-append_seam}
 use Rattle.msgpack_first_bytes.specs.Bytes.{Bytes, pick}
-use Rattle.tuples.specs.Tuple.{fields_of}
 use Rattle.tuples.specs.Call.{number_of, Outcome, refusal, bytes, update, undo, refusing, writing, delivered, spoiled_in, with_place, update_call, undo_call}
-use Rattle.tuples.specs.Upsert.{upsert, upsert_undo, refused_of, upsert_call, upsert_undo_call}
-use Rattle.tuples.specs.Sequence.{State, on_answer, goes_in, state_after}
-use Rattle.tuples.specs.Press.{pressing, press, upsert_press, PressResult, declining, writing_both, pressed, placed, press_call, upsert_press_call, on_press, state_after_press, state_after_upsert_press, RoomFor, GoesInAlike, tuple_seen, undo_seen, AsTheTwoCalls, PressesAsTheTwoCalls}
+use Rattle.tuples.specs.Sequence.{updating, State, on_answer, goes_in, state_after}
+use Rattle.tuples.specs.Press.{pressing, press, PressResult, declining, writing_both, pressed, placed, press_call, on_press, state_after_press, RoomFor, GoesInAlike, tuple_seen, undo_seen, AsTheTwoCalls}
 use Rattle.tuples.specs.declared.Refusal.{Refusal}
 use Rattle.tuples.specs.declared.Refusal.TheVariants.{ShortBuffer}
 use Rattle.msgpack_first_bytes.proofs.Logic.{impossible}
@@ -67,17 +64,14 @@ module _ (t l out un : Bytes) where
       go true h = absurd (h refl)
       go false h = (refl, refl)
 
-  as_the_two_calls : (o p : Outcome) → AsTheTwoCalls (seen o p) (with_place t l (delivered o out)) (with_place t l (delivered p un)) out un
-  unfolding with_place placed
-  as_the_two_calls o p = record { accepted = accepts o p; accepting = is-accepted o p; kept = keeps o p }
-
-pub presses_as_the_two_calls : PressesAsTheTwoCalls
-unfolding press_call press upsert_press_call upsert_press update_call undo_call upsert_call upsert_undo_call
-presses_as_the_two_calls =
-    record {
-      for_updates = λ t l b out un. as_the_two_calls t l out un (update t l b) (undo t l b);
-      for_upserts = λ g t l b out un. as_the_two_calls (refused_of (fields_of g) g t) l out un (upsert g (some t) l b) (upsert_undo g t l b);
-    }
+  pub as_the_two_calls : (b : ℕ) → AsTheTwoCalls t l b out un
+  unfolding press_call press placed update_call undo_call with_place
+  as_the_two_calls b =
+      record {
+        accepted = accepts (update t l b) (undo t l b);
+        accepting = is-accepted (update t l b) (undo t l b);
+        kept = keeps (update t l b) (undo t l b);
+      }
 
 -- ---- the state afterwards
 
@@ -99,9 +93,5 @@ module _ (s : State) (out un : Bytes) where
       go false = refl
 
 pub goes_in-alike : GoesInAlike
-unfolding state_after_press state_after_upsert_press state_after press_call press upsert_press_call upsert_press placed on_press update_call upsert_call with_place on_answer
-goes_in-alike =
-    record {
-      for_updates = λ s l b out un h. alike s out un (update s.tuple l b) (undo s.tuple l b) h;
-      for_upserts = λ s g l b out un h. alike s out un (upsert g (some s.tuple) l b) (upsert_undo g s.tuple l b) h;
-    }
+unfolding state_after_press state_after press_call press placed on_press update_call with_place on_answer
+goes_in-alike s l b out un h = alike s out un (update s.tuple l b) (undo s.tuple l b) h

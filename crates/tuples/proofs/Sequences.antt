@@ -7,13 +7,11 @@ use native.Mathlib.Omega.{arith}
 use lib.ListN.{length}
 use Rattle.msgpack_first_bytes.specs.Bytes.{Bytes}
 use Rattle.tuples.specs.Tuple.{Fields, plain, fields_of}
-use Rattle.tuples.specs.Operation.{of_update, of_upsert}
 use Rattle.tuples.specs.Call.{Outcome, refusal, bytes, update, undo, delivered, with_place, update_call, undo_call}
-use Rattle.tuples.specs.Upsert.{upsert, upsert_undo, refused_of, upsert_call, upsert_undo_call}
-use Rattle.tuples.specs.Sequence.{Event, updating, upserting, taking_back, OnPile, State, start, on_answer, goes_in, take_back_call, after_taking_back, state_after, state_after_all, Holds, EachHolds, Demand3}
+use Rattle.tuples.specs.Sequence.{Event, updating, taking_back, OnPile, State, start, on_answer, goes_in, take_back_call, after_taking_back, state_after, state_after_all, Holds, EachHolds, Demand3}
 use Rattle.msgpack_first_bytes.proofs.Logic.{impossible}
 use Rattle.tuples.proofs.Tuple.{fields-legal, read_plain}
-use Rattle.tuples.proofs.Calls.{TakesBack, WentIn, went_in, given-bytes, no_place_lem, by_answer}
+use Rattle.tuples.proofs.Calls.{TakesBack, went_in, no_place_lem, by_answer}
 
 -- ---- an update that went in
 
@@ -24,14 +22,6 @@ laid_on : (s : State) (top : OnPile) (u : Outcome) (w : Bytes) → (goes_in s u 
 unfolding goes_in
 laid_on s top (refusal k i) w h = unchanged top s.pile h
 laid_on s top (bytes u) w h = let e : record { list = u; given = s.tuple } ≡ top = cc in ap (λ (x : OnPile). bytes x.list) e
-
--- a call that went in laid its undo list on the pile: what the undo call of the same inputs writes; t is the tuple of its place
-laid_call : (s : State) (top : OnPile) (o u : Outcome) (out : Bytes) → (on_answer (delivered o out) s (goes_in s u)).pile ≡ top ∷ s.pile
-    → (t l room : Bytes) → with_place t l (delivered u room) ≡ delivered (bytes top.list) room
-laid_call s top o u out h t l room =
-    let q = by_answer (λ (x : State). x.pile ≡ top ∷ s.pile → u ≡ bytes top.list) o out s (goes_in s u)
-    (λ e. unchanged top s.pile e) (λ w _. laid_on s top u w) in
-    ap (λ (y : Outcome). with_place t l (delivered y room)) (q h) ∙ no_place_lem t l top.list room
 
 module _ (first : Fields) where
   -- each list of the pile takes the fields above it to those of the tuple that its update was given
@@ -46,11 +36,11 @@ module _ (first : Fields) where
     chain : Chain cur s.pile
 
   module _ (s : State) (k : Sure s) where
-    goes_in_sure : (u : Outcome) (w : Bytes) → ((v : Bytes) → u ≡ bytes v → WentIn s.tuple w v) → Sure (goes_in s u w)
+    goes_in_sure : (l : Bytes) (b : ℕ) (u : Outcome) → undo s.tuple l b ≡ u → (w : Bytes) → update s.tuple l b ≡ bytes w → Sure (goes_in s u w)
     unfolding goes_in
-    goes_in_sure (refusal r i) w q = k
-    goes_in_sure (bytes u) w q =
-        let x = q u refl in
+    goes_in_sure l b (refusal r i) q w e = k
+    goes_in_sure l b (bytes u) q w e =
+        let x = went_in s.tuple l b w u e q in
         let c : k.cur ≡ x.fs = cc (k.reads, x.read) in
         record {
           cur = x.gs;
@@ -72,22 +62,17 @@ module _ (first : Fields) where
         record { cur = c.0; reads = ap fields_of o ∙ read_plain c.0 (fields-legal x.given c.0 c.1); chain = c.3 }))
 
   after_sure : (s : State) (e : Event) → Sure s → Sure (state_after s e)
-  unfolding state_after update_call update undo upsert_call upsert upsert_undo with_place on_answer
+  unfolding state_after update_call with_place on_answer
   after_sure s (updating l b out) k =
-      by_answer Sure (update s.tuple l b) out s (goes_in s (undo s.tuple l b)) k
-      (λ w e. goes_in_sure s k (undo s.tuple l b) w (λ v q. went_in (of_update b) s.tuple l w v e q))
-  after_sure s (upserting g l b out) k =
-      by_answer Sure (upsert g (some s.tuple) l b) out s (goes_in s (upsert_undo g s.tuple l b)) k
-      (λ w e. goes_in_sure s k (upsert_undo g s.tuple l b) w
-      (λ v q. went_in (of_upsert b) s.tuple l w v (given-bytes (fields_of g) _ e) (given-bytes (fields_of g) _ q)))
+      by_answer Sure (update s.tuple l b) out s (goes_in s (undo s.tuple l b)) k (goes_in_sure s k l b (undo s.tuple l b) refl)
   after_sure s (taking_back out) k = takes_back_sure s k s.pile out k.chain
 
   holds : (s : State) (e : Event) → Sure s → Holds s e
-  unfolding state_after update_call undo_call upsert_call upsert_undo_call with_place on_answer
+  unfolding state_after update_call undo_call with_place on_answer
   holds s (updating l b out) k = λ top h room.
-      laid_call s top (update s.tuple l b) (undo s.tuple l b) out h s.tuple l room
-  holds s (upserting g l b out) k = λ top h room.
-      laid_call s top (upsert g (some s.tuple) l b) (upsert_undo g s.tuple l b) out h (refused_of (fields_of g) g s.tuple) l room
+      let q = by_answer (λ (x : State). x.pile ≡ top ∷ s.pile → undo s.tuple l b ≡ bytes top.list) (update s.tuple l b) out s
+      (goes_in s (undo s.tuple l b)) (λ e. unchanged top s.pile e) (λ w _. laid_on s top (undo s.tuple l b) w) in
+      ap (λ (o : Outcome). with_place s.tuple l (delivered o room)) (q h) ∙ no_place_lem s.tuple l top.list room
   holds s (taking_back out) k = λ top below h.
       let c : Chain k.cur (top ∷ below) = subst (Chain k.cur) h k.chain in
       (c.0, c.1, top-plain s k top below out c)

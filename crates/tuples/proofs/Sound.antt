@@ -4,7 +4,7 @@ use mathlib.Core.Bool.{Bool, true, false}
 use mathlib.Core.List.{List, [], ◌∷◌, append-nil}
 use mathlib.Core.Logic.{⊎_elim}
 use mathlib.Core.Option.{Option, none, some}
-use Prim.Native.Nat.{ℕ, ◌%◌, ◌^◌, ◌<◌, ◌≤◌}
+use Prim.Native.Nat.{ℕ, ◌^◌, ◌<◌, ◌≤◌}
 use native.Mathlib.Omega.{arith}
 use borrow.Author.Tests.{eqb-true, le-ltb}
 use lib.Dec.{eqb}
@@ -17,14 +17,14 @@ use Rattle.msgpack_values.specs.Value.{value, one, by_form, sized, payload}
 use Rattle.msgpack_values.specs.Pieces.{Single}
 use Rattle.msgpack_scalars.specs.declared.Int.{Int}
 use Rattle.msgpack_scalars.specs.declared.Int.TheVariants.{FromZero, BelowZero}
-use Rattle.msgpack_writing.specs.Forms.{big_endian, unsigned_form, negative_form, string_header, string_form}
+use Rattle.msgpack_writing.specs.Forms.{big_endian, unsigned_form, string_header, string_form}
 use Rattle.msgpack_read_back.proofs.Back.{integer-whole, string-whole}
 use Rattle.msgpack_first_bytes.proofs.Logic.{by_leb, by_ltb, either}
 use Rattle.tuples.specs.Limits.{max_tuple, field_depth}
 use Rattle.tuples.specs.Tuple.{Fields}
-use Rattle.tuples.specs.Decoding.{Got, fails, gets, Decoder, any_integer, integer_or_zero, at_least, string}
-use Rattle.tuples.specs.Operation.{Action, plus, minus, and, xor, or, assign, insert, remove, splice, upsertPlus, upsertMinus, upsertAssign, upsertInsert, upsert_remove, Operation}
-use Rattle.tuples.specs.Edit.{Edit, refuse, put, add, cut, skip, asℤ, ranged, wrapped, shortest, spliced, became, suited, altered_or, edit_at, field_at, Plan, plan_of, plans}
+use Rattle.tuples.specs.Decoding.{Got, fails, gets, Decoder, any_integer, at_least, string}
+use Rattle.tuples.specs.Operation.{Action, plus, minus, and, xor, or, assign, insert, remove, splice, Operation}
+use Rattle.tuples.specs.Edit.{Edit, refuse, put, add, cut, asℤ, ranged, spliced, became, suited, altered, edit_at, field_at, Plan, plan_of, plans}
 use Rattle.tuples.specs.declared.Refusal.TheVariants.{NoField}
 use Rattle.tuples.proofs.Decode.{Fine, FineOperation, AllFine, end, fine}
 
@@ -52,14 +52,6 @@ unfolding ranged
 ranged_brings (pos n) = by_ltb Brings n (2 ^ 64) (λ h _. unsigned-value n) (λ _. tt)
 ranged_brings (negsuc m) = by_ltb Brings m (2 ^ 63) (λ h _. rw append-nil at (integer-whole field_depth (BelowZero m) [] h)) (λ _. tt)
 
--- a number that is brought into range
-wrapped-value : (k : ℤ) → Single (value field_depth) (shortest (wrapped k))
-unfolding wrapped shortest
-wrapped-value (pos n) = unsigned-value (n % 2 ^ 64)
-wrapped-value (negsuc m) =
-    by_ltb (λ (z : ℤ). Single (value field_depth) (shortest z)) (m % 2 ^ 64) (2 ^ 63)
-    (λ h. rw append-nil at (integer-whole field_depth (BelowZero (m % 2 ^ 64)) [] h)) (λ _. unsigned-value _)
-
 string_brief : (s : Bytes) → Brief (string_form s)
 string_brief s h =
     let l = length-append (string_header (length s)) s in
@@ -71,17 +63,17 @@ abbrev pub Sound : Edit → Fields → Type 0
 Sound (refuse k) t = Unit {0}
 Sound (put f b) t = (f < length t) × Brief b
 Sound (add f b) t = (f ≤ length t) × Brief b
-Sound (cut f m) t = f ≤ length t
+Sound (cut f m) t = f < length t
 
-module _ {A : Type 0} (absent : Edit) (read : Decoder A) (change : A → Option Bytes) (h : (a : A) → Brings (change a)) (f : ℕ) (t : Fields) where
+module _ {A : Type 0} (read : Decoder A) (change : A → Option Bytes) (h : (a : A) → Brings (change a)) (f : ℕ) (t : Fields) where
   became-sound : f < length t → (o : Option Bytes) → Brings o → Sound (became f o) t
   unfolding became
   became-sound l none b = tt
   became-sound l (some x) b = (l, b)
 
-  altered-sound : Sound absent t → Sound (altered_or absent read change f t) t
-  unfolding altered_or suited
-  altered-sound s = by_ltb (λ e. Sound e t) f (length t) (λ l. go l (read (get_or t f []))) (λ _. s)
+  altered-sound : Sound (altered read change f t) t
+  unfolding altered suited
+  altered-sound = by_ltb (λ e. Sound e t) f (length t) (λ l. go l (read (get_or t f []))) (λ _. tt)
     where
       go : f < length t → (g : Got A) → Sound (suited f g change) t
       go l fails = tt
@@ -89,11 +81,11 @@ module _ {A : Type 0} (absent : Edit) (read : Decoder A) (change : A → Option 
 
 edit_sound : (a : Action) → Fine a → (f : ℕ) (t : Fields) → Sound (edit_at a f t) t
 unfolding edit_at
-edit_sound (plus v) k f t = altered-sound (refuse NoField) any_integer _ (λ z. ranged_brings (asℤ z +ℤ asℤ v)) f t tt
-edit_sound (minus v) k f t = altered-sound (refuse NoField) any_integer _ (λ z. ranged_brings (asℤ z -ℤ asℤ v)) f t tt
-edit_sound (and v) k f t = altered-sound (refuse NoField) (at_least 0) _ (λ n _. unsigned-value _) f t tt
-edit_sound (xor v) k f t = altered-sound (refuse NoField) (at_least 0) _ (λ n _. unsigned-value _) f t tt
-edit_sound (or v) k f t = altered-sound (refuse NoField) (at_least 0) _ (λ n _. unsigned-value _) f t tt
+edit_sound (plus v) k f t = altered-sound any_integer _ (λ z. ranged_brings (asℤ z +ℤ asℤ v)) f t
+edit_sound (minus v) k f t = altered-sound any_integer _ (λ z. ranged_brings (asℤ z -ℤ asℤ v)) f t
+edit_sound (and v) k f t = altered-sound (at_least 0) _ (λ n _. unsigned-value _) f t
+edit_sound (xor v) k f t = altered-sound (at_least 0) _ (λ n _. unsigned-value _) f t
+edit_sound (or v) k f t = altered-sound (at_least 0) _ (λ n _. unsigned-value _) f t
 edit_sound (assign b) k f t =
     by_ltb (λ e. Sound e t) f (length t) (λ l. (l, λ _. k)) (λ _. appended (eqb f (length t)) refl)
   where
@@ -101,13 +93,8 @@ edit_sound (assign b) k f t =
     appended true e = (omega (arith, eqb-true f (length t) e), λ _. k)
     appended false e = tt
 edit_sound (insert b) k f t = by_leb (λ e. Sound e t) f (length t) (λ l. (l, λ _. k)) (λ _. tt)
-edit_sound (remove m) k f t = by_ltb (λ e. Sound e t) f (length t) (λ l. omega arith) (λ _. tt)
-edit_sound (splice p c a) k f t = altered-sound (refuse NoField) string _ (λ s. string_brief (spliced p c a s)) f t tt
-edit_sound (upsertPlus v) k f t = altered-sound skip integer_or_zero _ (λ z _. wrapped-value (asℤ z +ℤ asℤ v)) f t (omega arith)
-edit_sound (upsertMinus v) k f t = altered-sound skip integer_or_zero _ (λ z _. wrapped-value (asℤ z -ℤ asℤ v)) f t (omega arith)
-edit_sound (upsertAssign b) k f t = by_ltb (λ e. Sound e t) f (length t) (λ l. (l, λ _. k)) (λ _. omega arith)
-edit_sound (upsertInsert b) k f t = by_leb (λ e. Sound e t) f (length t) (λ l. (l, λ _. k)) (λ _. omega arith)
-edit_sound (upsert_remove m) k f t = by_ltb (λ e. Sound e t) f (length t) (λ l. omega arith) (λ _. omega arith)
+edit_sound (remove m) k f t = by_ltb (λ e. Sound e t) f (length t) (λ l. l) (λ _. tt)
+edit_sound (splice p c a) k f t = altered-sound string _ (λ s. string_brief (spliced p c a s)) f t
 
 pub plan_sound : (o : Operation) → FineOperation o → (t : Fields) → Sound (plan_of o t) t
 unfolding plan_of field_at

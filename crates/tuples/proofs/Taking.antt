@@ -15,9 +15,8 @@ use Rattle.msgpack_writing.specs.Forms.{unsigned_form}
 use Rattle.tuples.specs.Limits.{field_depth}
 use Rattle.tuples.specs.Tuple.{Fields}
 use Rattle.tuples.specs.Decoding.{gets}
-use Rattle.tuples.specs.Operation.{of_update, assign, insert, remove, Operation, operation}
+use Rattle.tuples.specs.Operation.{assign, insert, remove, Operation, operation}
 use Rattle.tuples.specs.Edit.{Edit, refuse, put, add, cut, spliced, edit_at, field_at, Plan, plan_of, plans, Step, stop, next, perform, step, Run, done, onward, run, operation_bytes, restored, inverse, undo_of}
-use Rattle.tuples.specs.declared.Rules.{Rules}
 use Rattle.msgpack_first_bytes.proofs.Logic.{impossible}
 use Rattle.tuples.proofs.Whole.{each_append, each_take, each-drop, each_at}
 use Rattle.tuples.proofs.Legal.{Fits, Legal, limited-fits, limited-next, plain-length, field-length, fits-less}
@@ -53,7 +52,7 @@ takes_none : (t : Fields) → Takes [] t t
 unfolding run plans
 takes_none t = record { os = []; written = none_left; runs = λ i. refl }
 
-takes_one : {b : Bytes} {o : Operation} {u t : Fields} → ReadAs (operation (of_update 0)) b o → step (plan_of o) u ≡ next t → Takes (b ∷ []) u t
+takes_one : {b : Bytes} {o : Operation} {u t : Fields} → ReadAs (operation 0) b o → step (plan_of o) u ≡ next t → Takes (b ∷ []) u t
 unfolding run plans
 takes_one {o = o} r e = record { os = o ∷ []; written = one_more r none_left; runs = λ i. rw e }
 
@@ -158,7 +157,7 @@ module _ (t u : Fields) (g : Legal t) where
       let p = take f t in
       let q = drop (f + m) t in
       let xs = take m (drop f t) in
-      let lp : length (take f t) ≡ f = length-take-le f t s in
+      let lp : length (take f t) ≡ f = length-take-le f t (omega arith) in
       let eq : take f t ++ (take m (drop f t) ++ drop (f + m) t) ≡ t = rw (← drop-drop m f t, take-append-drop m (drop f t)) (take-append-drop f t) in
       let few = g.fit.few in
       let (ue, uf) = limited-next _ u h in
@@ -176,6 +175,6 @@ run_undone (p ∷ ps) t u i (one-plan k ks) g h =
     rw e (record { legal = y.legal; takes = takes_then y.takes x.takes })
 
 -- one operation leaves legal fields
-pub got_legal : (r : Rules) (s : Bytes) {o : Operation} {m : Bytes} → operation r s ≡ gets o m → (t u : Fields) → Legal t → perform (plan_of o t) t ≡ next u → Legal u
+pub got_legal : (base : ℕ) (s : Bytes) {o : Operation} {r : Bytes} → operation base s ≡ gets o r → (t u : Fields) → Legal t → perform (plan_of o t) t ≡ next u → Legal u
 unfolding run step
-got_legal r s {o} e t u g h = (run_undone (plan_of o ∷ []) t u 0 (one-plan (plan_sound o (got_fine r s e)) no-plan) g (rw h)).legal
+got_legal base s {o} e t u g h = (run_undone (plan_of o ∷ []) t u 0 (one-plan (plan_sound o (got_fine base s e)) no-plan) g (rw h)).legal

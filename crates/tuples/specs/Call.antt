@@ -6,9 +6,8 @@ use Rattle.msgpack_values.specs.Spoiled.{no_place, spoiled_at}
 use Rattle.msgpack_values.specs.declared.OptionalNumber.{OptionalNumber}
 use Rattle.tuples.specs.Limits.{tuple_depth, list_depth, max_operations, max_list}
 use Rattle.tuples.specs.Tuple.{Fields, plain, fields_of}
-use Rattle.tuples.specs.Operation.{of_update, Operation, operations_of}
+use Rattle.tuples.specs.Operation.{Operation, operations_of}
 use Rattle.tuples.specs.Edit.{Plan, plans, Run, refused, done, run, undo_of}
-use Rattle.tuples.specs.declared.Rules.{Rules}
 use Rattle.tuples.specs.declared.Refusal.{Refusal}
 use Rattle.tuples.specs.declared.Refusal.TheVariants.{BadTuple, BadList, NoField, Unsuited, OutOfRange, TooLarge, LongUndo, ShortBuffer}
 
@@ -49,19 +48,12 @@ limited_list us = pick (leb (length us) max_operations && leb (length (plain us)
 unfoldable pub undo_list_of : Fields → List Plan → Outcome
 undo_list_of t ps = on_run (run 0 ps t) (λ u. limited_list (undo_of ps t))
 
--- of a tuple and a list, by the list's rules: the new tuple, and the undo list
-unfoldable pub applied : Rules → Bytes → Bytes → Outcome
-applied r t l = judged (fields_of t) (operations_of r l) update_of
-
-unfoldable pub taken_back : Rules → Bytes → Bytes → Outcome
-taken_back r t l = judged (fields_of t) (operations_of r l) undo_list_of
-
 -- of a tuple, a list and an index base
 unfoldable pub update : Bytes → Bytes → ℕ → Outcome
-update t l b = applied (of_update b) t l
+update t l b = judged (fields_of t) (operations_of b l) update_of
 
 unfoldable pub undo : Bytes → Bytes → ℕ → Outcome
-undo t l b = taken_back (of_update b) t l
+undo t l b = judged (fields_of t) (operations_of b l) undo_list_of
 
 -- what a caller sees: the answer, and the lent buffer afterwards
 pub record Result : Type 0 where

@@ -1,5 +1,5 @@
 -- The parts of which an operation is read, each at the front of bytes.
-use Rattle.std.specs.Prelude.{ℕ, ◌+◌, ◌-◌, Bool, false, ◌||◌, [], ◌∷◌, leb, eqb, length, take, drop}
+use Rattle.std.specs.Prelude.{ℕ, ◌+◌, ◌-◌, [], ◌∷◌, leb, eqb, length, take, drop}
 use Rattle.msgpack_first_bytes.specs.Bytes.{Bytes, pick}
 use Rattle.msgpack_values.specs.Value.{value}
 use Rattle.msgpack_values.specs.declared.Read.{Read}
@@ -54,19 +54,6 @@ integer_from OtherInt s = fails
 
 unfoldable pub any_integer : Decoder Int
 any_integer s = integer_from (integer s) s
-
--- float 32 and float 64, by the first byte
-unfoldable pub is_float : Bytes → Bool
-is_float [] = false
-is_float (b ∷ s) = eqb b 0xca || eqb b 0xcb
-
-unfoldable pub or_zero : Got Int → Bytes → Got Int
-or_zero (gets z r) s = gets z r
-or_zero fails s = pick (is_float s) fails (gets (FromZero 0) s)
-
--- 02, 4/12: "`+` or `-` on a field that is not a number starts from 0. A float there is refused with 14."
-unfoldable pub integer_or_zero : Decoder Int
-integer_or_zero s = or_zero (any_integer s) s
 
 -- z less k; BelowZero m is -1 - m
 unfoldable pub less : ℕ → Int → Int

@@ -1,5 +1,5 @@
 -- What operations do to a tuple's fields, and what takes it back.
-use Rattle.std.specs.Prelude.{ℕ, suc, ◌+◌, ◌-◌, ◌%◌, ◌^◌, min, ◌≡◌, Bool, ◌&&◌, List, [], ◌∷◌, ◌++◌, leb, ltb, eqb, ℤ, pos, negsuc, ◌+ℤ◌, ◌-ℤ◌, length, get_or, take, drop}
+use Rattle.std.specs.Prelude.{ℕ, suc, ◌+◌, ◌-◌, ◌^◌, min, Bool, ◌&&◌, List, [], ◌∷◌, ◌++◌, leb, ltb, eqb, ℤ, pos, negsuc, ◌+ℤ◌, ◌-ℤ◌, length, get_or, take, drop}
 use Rattle.std.proofs.Math.Option.{Option, none, some}
 use Rattle.std.specs.Int.Bits.{bit_and, bit_or, bit_xor}
 use Rattle.msgpack_first_bytes.specs.Bytes.{Bytes, pick}
@@ -8,8 +8,8 @@ use Rattle.msgpack_scalars.specs.declared.Int.TheVariants.{FromZero, BelowZero}
 use Rattle.msgpack_writing.specs.Forms.{unsigned_form, negative_form, string_header, string_form, array_header}
 use Rattle.tuples.specs.Limits.{max_fields, max_tuple}
 use Rattle.tuples.specs.Tuple.{Fields, plain}
-use Rattle.tuples.specs.Decoding.{Got, fails, gets, Decoder, any_integer, integer_or_zero, at_least, string}
-use Rattle.tuples.specs.Operation.{Action, plus, minus, and, xor, or, assign, insert, remove, splice, upsertPlus, upsertMinus, upsertAssign, upsertInsert, upsert_remove, Operation}
+use Rattle.tuples.specs.Decoding.{Got, fails, gets, Decoder, any_integer, at_least, string}
+use Rattle.tuples.specs.Operation.{Action, plus, minus, and, xor, or, assign, insert, remove, splice, Operation}
 use Rattle.tuples.specs.declared.Refusal.{Refusal}
 use Rattle.tuples.specs.declared.Refusal.TheVariants.{NoField, Unsuited, OutOfRange, TooLarge}
 
@@ -18,10 +18,6 @@ pub data Edit : Type 0 where
   refuse : Refusal → Edit
   put add : ℕ → Bytes → Edit
   cut : ℕ → ℕ → Edit
-
--- 02, 4/12: a skipped operation cuts no field, and so "adds nothing to the undo list"
-abbrev pub skip : Edit
-skip = cut 0 0
 
 -- ---- computed and spliced fields: "Numbers computed by `+ - & ^ |` and spliced strings take their shortest form"
 
@@ -33,24 +29,6 @@ asℤ (BelowZero m) = negsuc m
 unfoldable pub ranged : ℤ → Option Bytes
 ranged (pos n) = pick (ltb n (2 ^ 64)) (some (unsigned_form n)) none
 ranged (negsuc m) = pick (ltb m (2 ^ 63)) (some (negative_form m)) none
-
--- 02, 4/12: "The sum wraps round past either end of the integer range: above 2^64-1, 2^64 is taken off; below -2^63 it is added."
-unfoldable pub once : ℤ → ℤ
-once (pos n) = pick (ltb n (2 ^ 64)) (pos n) (pos n -ℤ pos (2 ^ 64))
-once (negsuc m) = pick (ltb m (2 ^ 63)) (negsuc m) (negsuc m +ℤ pos (2 ^ 64))
-
--- .. as often as any number needs it to be in range; a sum or a difference of two that are needs it once (`WrapsOnce`)
-unfoldable pub wrapped : ℤ → ℤ
-wrapped (pos n) = pos (n % 2 ^ 64)
-wrapped (negsuc m) = pick (ltb (m % 2 ^ 64) (2 ^ 63)) (negsuc (m % 2 ^ 64)) (pos (2 ^ 64 - 1 - m % 2 ^ 64))
-
-pub record WrapsOnce (z v : Int) : Type 0 where
-  pub sum : wrapped (asℤ z +ℤ asℤ v) ≡ once (asℤ z +ℤ asℤ v)
-  pub difference : wrapped (asℤ z -ℤ asℤ v) ≡ once (asℤ z -ℤ asℤ v)
-
-unfoldable pub shortest : ℤ → Bytes
-shortest (pos n) = unsigned_form n
-shortest (negsuc m) = negative_form m
 
 -- from p on, c go and a comes in their place: "p past the string's end means its end; a count past the end stops there", as take and drop do
 unfoldable pub spliced : {A : Type 0} → ℕ → ℕ → List A → List A → List A
@@ -67,17 +45,11 @@ module _ {A : Type 0} where
   suited f fails change = refuse Unsuited
   suited f (gets a s) change = became f (change a)
 
-  -- field f becomes what `change` makes of it, where it is what `read` reads; `absent` where there is no field f
-  unfoldable pub altered_or : Edit → Decoder A → (A → Option Bytes) → ℕ → Fields → Edit
-  altered_or absent read change f t = pick (ltb f (length t)) (suited f (read (get_or t f [])) change) absent
+  -- field f becomes what `change` makes of it, where it is what `read` reads
+  unfoldable pub altered : Decoder A → (A → Option Bytes) → ℕ → Fields → Edit
+  altered read change f t = pick (ltb f (length t)) (suited f (read (get_or t f [])) change) (refuse NoField)
 
-  abbrev pub altered : Decoder A → (A → Option Bytes) → ℕ → Fields → Edit
-  altered = altered_or (refuse NoField)
-
-  abbrev pub altered_or_skipped : Decoder A → (A → Option Bytes) → ℕ → Fields → Edit
-  altered_or_skipped = altered_or skip
-
--- ---- the marks; "f and p are the numbers after the base is taken off, and n the present number of fields"
+-- ---- the nine marks; "f and p are the numbers after the base is taken off, and n the present number of fields"
 
 unfoldable pub edit_at : Action → ℕ → Fields → Edit
 -- "field and argument integers, f < n; a result out of range is refused"
@@ -95,15 +67,6 @@ edit_at (insert b) f t = pick (leb f (length t)) (add f b) (refuse NoField)
 edit_at (remove m) f t = pick (ltb f (length t)) (cut f (min m (length t - f))) (refuse NoField)
 -- "string field, f < n ... The bytes there are replaced by the argument."
 edit_at (splice p c a) f t = altered string (λ s. some (string_form (spliced p c a s))) f t
--- 02, 4/12: "any other whose field is absent is skipped"
-edit_at (upsertPlus v) f t = altered_or_skipped integer_or_zero (λ z. some (shortest (wrapped (asℤ z +ℤ asℤ v)))) f t
-edit_at (upsertMinus v) f t = altered_or_skipped integer_or_zero (λ z. some (shortest (wrapped (asℤ z -ℤ asℤ v)))) f t
--- "so `=` never appends"
-edit_at (upsertAssign b) f t = pick (ltb f (length t)) (put f b) skip
--- "`!` inserts up to f = n and is skipped past it"
-edit_at (upsertInsert b) f t = pick (leb f (length t)) (add f b) skip
--- "`#` removes as in 01"
-edit_at (upsert_remove m) f t = pick (ltb f (length t)) (cut f (min m (length t - f))) skip
 
 -- "13: f below 0 or past what the operation allows"
 unfoldable pub field_at : Int → (ℕ → Edit) → Edit

@@ -1,13 +1,10 @@
 -- One call that does a press: `press(tuple, list, index_base, out, undo)`. Both halves of it, and what a caller sees.
 use Rattle.std.specs.Prelude.{ℕ, ◌≤◌, ◌≡◌, ◌&&◌, ◌∷◌, ◌++◌, leb, eqb, length, take, drop}
-use Rattle.std.proofs.Math.Option.{some}
 use Rattle.msgpack_first_bytes.specs.Bytes.{Bytes, pick}
 use Rattle.msgpack_values.specs.Spoiled.{no_place}
 use Rattle.msgpack_values.specs.declared.OptionalNumber.{OptionalNumber}
 use Rattle.tuples.specs.Call.{number_of, Outcome, refusal, bytes, update, undo, Result, spoiled_in, update_call, undo_call}
-use Rattle.tuples.specs.Tuple.{fields_of}
-use Rattle.tuples.specs.Upsert.{upsert, upsert_undo, refused_of, upsert_call, upsert_undo_call}
-use Rattle.tuples.specs.Sequence.{updating, upserting, State, state_after}
+use Rattle.tuples.specs.Sequence.{updating, State, state_after}
 use Rattle.tuples.specs.declared.Refusal.{Refusal}
 use Rattle.tuples.specs.declared.Refusal.TheVariants.{ShortBuffer}
 
@@ -25,10 +22,6 @@ pressing (bytes w) (bytes u) = both w u
 -- of a tuple, a list and an index base
 unfoldable pub press : Bytes → Bytes → ℕ → Pressing
 press t l b = pressing (update t l b) (undo t l b)
-
--- .. of an upsert: the given tuple, the found one, a list and an index base
-unfoldable pub upsert_press : Bytes → Bytes → Bytes → ℕ → Pressing
-upsert_press g t l b = pressing (upsert g (some t) l b) (upsert_undo g t l b)
 
 -- what a caller sees: the answer, and the two lent buffers afterwards
 pub record PressResult : Type 0 where
@@ -77,12 +70,9 @@ placed t l r =
       undo_buffer = r.undo_buffer;
     }
 
--- THE TWO CALLS: tuple, list, index base, the buffer for the tuple, the buffer for the undo list; of an upsert the given tuple before them
+-- THE CALL: tuple, list, index base, the buffer for the tuple, the buffer for the undo list
 unfoldable pub press_call : Bytes → Bytes → ℕ → Bytes → Bytes → PressResult
 press_call t l b out un = placed t l (pressed (press t l b) out un)
-
-unfoldable pub upsert_press_call : Bytes → Bytes → Bytes → ℕ → Bytes → Bytes → PressResult
-upsert_press_call g t l b out un = placed (refused_of (fields_of g) g t) l (pressed (upsert_press g t l b) out un)
 
 -- ---- what is claimed of it
 
@@ -95,21 +85,16 @@ on_press r s =
 unfoldable pub state_after_press : State → Bytes → ℕ → Bytes → Bytes → State
 state_after_press s l b out un = on_press (press_call s.tuple l b out un) s
 
-unfoldable pub state_after_upsert_press : State → Bytes → Bytes → ℕ → Bytes → Bytes → State
-state_after_upsert_press s g l b out un = on_press (upsert_press_call g s.tuple l b out un) s
-
 -- room for what is to be written, where there is something
 abbrev pub RoomFor : Outcome → Bytes → Type 0
 RoomFor (refusal k i) out = Unit {0}
 RoomFor (bytes w) out = length w ≤ length out
 
--- with room for the undo list a press does to tuple and pile what demand 3's update, or upsert, does: it goes in exactly where that goes
--- in, and lays the same list on the pile
-pub record GoesInAlike : Type 0 where
-  pub for_updates : (s : State) (l : Bytes) (b : ℕ) (out un : Bytes) → RoomFor (undo s.tuple l b) un
-      → state_after_press s l b out un ≡ state_after s (updating l b out)
-  pub for_upserts : (s : State) (g l : Bytes) (b : ℕ) (out un : Bytes) → RoomFor (upsert_undo g s.tuple l b) un
-      → state_after_upsert_press s g l b out un ≡ state_after s (upserting g l b out)
+-- with room for the undo list a press does to tuple and pile what demand 3's update does: it goes in exactly where that goes in, and
+-- lays the same list on the pile
+abbrev pub GoesInAlike : Type 0
+GoesInAlike =
+    (s : State) (l : Bytes) (b : ℕ) (out un : Bytes) → RoomFor (undo s.tuple l b) un → state_after_press s l b out un ≡ state_after s (updating l b out)
 
 -- what the caller of one of the two calls would see of a press
 abbrev pub tuple_seen : PressResult → Result
@@ -118,13 +103,9 @@ tuple_seen r = record { number = r.number; operation = r.operation; length = r.l
 abbrev pub undo_seen : PressResult → Result
 undo_seen r = record { number = r.number; operation = r.operation; length = r.undo_length; place = r.place; buffer = r.undo_buffer }
 
--- a press beside the two calls of the same inputs: 0 exactly where both answer 0, and then their very bytes; else neither buffer is changed
-pub record AsTheTwoCalls (p : PressResult) (w u : Result) (out un : Bytes) : Type 0 where
-  pub accepted : p.number ≡ 0 → (w ≡ tuple_seen p) × (u ≡ undo_seen p)
-  pub accepting : w.number ≡ 0 → u.number ≡ 0 → p.number ≡ 0
-  pub kept : (p.number ≡ 0 → ⊥) → (p.buffer ≡ out) × (p.undo_buffer ≡ un)
-
-pub record PressesAsTheTwoCalls : Type 0 where
-  pub for_updates : (t l : Bytes) (b : ℕ) (out un : Bytes) → AsTheTwoCalls (press_call t l b out un) (update_call t l b out) (undo_call t l b un) out un
-  pub for_upserts : (g t l : Bytes) (b : ℕ) (out un : Bytes)
-      → AsTheTwoCalls (upsert_press_call g t l b out un) (upsert_call g (some t) l b out) (upsert_undo_call g t l b un) out un
+-- a press on these inputs beside the two calls: 0 exactly where both answer 0, and then their very bytes; else neither buffer is changed
+pub record AsTheTwoCalls (t l : Bytes) (b : ℕ) (out un : Bytes) : Type 0 where
+  pub accepted : (press_call t l b out un).number ≡ 0 → (update_call t l b out ≡ tuple_seen (press_call t l b out un)) × (undo_call t l b un ≡ undo_seen (press_call t l b out un))
+  pub accepting : (update_call t l b out).number ≡ 0 → (undo_call t l b un).number ≡ 0 → (press_call t l b out un).number ≡ 0
+  pub kept : ((press_call t l b out un).number ≡ 0 → ⊥)
+      → ((press_call t l b out un).buffer ≡ out) × ((press_call t l b out un).undo_buffer ≡ un)

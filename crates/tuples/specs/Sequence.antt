@@ -1,15 +1,13 @@
--- Updates, upserts and takings back in any sequence: 01, "Demand 3 in full", and 02, 4/12.
+-- Updates and takings back in any sequence: 01, "Demand 3 in full".
 use Rattle.std.specs.Prelude.{ℕ, ◌≡◌, List, [], ◌∷◌, eqb, take}
 use Rattle.std.proofs.Math.Option.{some}
 use Rattle.msgpack_first_bytes.specs.Bytes.{Bytes, pick}
 use Rattle.tuples.specs.Tuple.{Fields, plain, fields_of}
 use Rattle.tuples.specs.Call.{Outcome, refusal, bytes, undo, Result, delivered, update_call, undo_call}
-use Rattle.tuples.specs.Upsert.{upsert_undo, upsert_call, upsert_undo_call}
 
 -- "A sequence holds any number of updates and takings back, also none, in any order": a list of these
 pub data Event : Type 0 where
   updating : Bytes → ℕ → Bytes → Event  -- "any list, index base and output buffer"
-  upserting : Bytes → Bytes → ℕ → Bytes → Event  -- 02, 4/12: "the given tuple any"; list, index base and output buffer as of an update
   taking_back : Bytes → Event  -- "any output buffer"
 
 -- an undo list on the pile, and beside it "the tuple that its update was given"
@@ -49,8 +47,6 @@ after_taking_back s (top ∷ below) out = on_answer (take_back_call s top out) s
 -- "An update is the update call on that tuple with any list, index base and output buffer."
 unfoldable pub state_after : State → Event → State
 state_after s (updating l b out) = on_answer (update_call s.tuple l b out) s (goes_in s (undo s.tuple l b))
--- 02, 4/12: "upserts stand in its sequences like updates, the sequence's tuple being the found one"
-state_after s (upserting g l b out) = on_answer (upsert_call g (some s.tuple) l b out) s (goes_in s (upsert_undo g s.tuple l b))
 state_after s (taking_back out) = after_taking_back s s.pile out
 
 unfoldable pub state_after_all : State → List Event → State
@@ -63,10 +59,6 @@ abbrev pub Holds : State → Event → Type 0
 -- that list": one that went in laid `top` on the pile
 Holds s (updating l b out) =
     (top : OnPile) → (state_after s (updating l b out)).pile ≡ top ∷ s.pile → (room : Bytes) → undo_call s.tuple l b room ≡ delivered (bytes top.list) room
--- and so the undo call of an upsert
-Holds s (upserting g l b out) =
-    (top : OnPile) → (state_after s (upserting g l b out)).pile ≡ top ∷ s.pile
-    → (room : Bytes) → upsert_undo_call g s.tuple l b room ≡ delivered (bytes top.list) room
 -- "a taking back whose buffer is at least as long as the plain form of the tuple that its update was given answers 0 and writes exactly
 -- that plain form"
 Holds s (taking_back out) =

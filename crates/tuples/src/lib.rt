@@ -1,14 +1,11 @@
-// Updating a tuple, upserts, and undoing both: the definitions are in specs/, and the theorems about them
-// are what the functions below ensure. No code runs here.
+// Updating a tuple and undoing it: the definitions are in specs/, and the theorems about them are
+// what the functions below ensure. No code runs here.
 ghost use Rattle.std.specs.Prelude.{ℕ, ◌≡◌, List, map};
 ghost use Rattle.std.proofs.Math.Option.{some};
 ghost use Rattle.msgpack_first_bytes.specs.Bytes.{Bytes};
 ghost use Rattle.tuples.specs.Tuple.{Fields, fields_of};
-ghost use Rattle.msgpack_scalars.specs.declared.Int.{Int};
-ghost use Rattle.msgpack_read_back.specs.Claims.{InRange};
-ghost use Rattle.tuples.specs.Edit.{WrapsOnce};
 ghost use Rattle.tuples.specs.Sequence.{Event, start, Demand3};
-ghost use Rattle.tuples.specs.Press.{GoesInAlike, PressesAsTheTwoCalls};
+ghost use Rattle.tuples.specs.Press.{GoesInAlike, AsTheTwoCalls};
 ghost use Rattle.tuples.specs.Examples.{computed, rules, first, events, showing, sequence, press_computed, presses};
 
 use msgpack_values::OptionalNumber;
@@ -27,13 +24,6 @@ pub const LIST_DEPTH: usize = 14;
 pub const MAX_OPERATIONS: usize = 64;
 
 pub const MAX_LIST: usize = 32768;
-
-// How a list is read: by the rules of an update or of an upsert, its numbers counted from the index base.
-#[derive(Drop)]
-pub struct Rules {
-    pub upsert: bool,
-    pub base: u64,
-}
 
 // Why an update or an undo is refused; `number_of` gives document 01's number of each.
 #[derive(Drop)]
@@ -72,22 +62,17 @@ pub struct PressAnswer {
     pub place: OptionalNumber,
 }
 
-// Demand 3: of every sequence of updates, upserts and takings back that starts from a tuple that 11 does
-// not refuse. The answers are those of the calls' own definitions.
+// Demand 3: of every sequence of updates and takings back that starts from a tuple that 11 does not
+// refuse. The answers are those of the two calls' own definitions.
 pub fn demand_3()
     ensures { (t : Bytes) (fs : Fields) (es : List Event) → fields_of t ≡ some fs → Demand3 t fs es }
 {}
 
-// A press, with room for the undo list, goes in exactly where demand 3's update or upsert goes in, with
-// the very bytes of the two calls; refused, it changes neither buffer.
+// A press, with room for the undo list, goes in exactly where demand 3's update goes in, with the
+// very bytes of the two calls; refused, it changes neither buffer.
 pub fn a_press_goes_in_exactly_where_the_update_does()
     ensures state { GoesInAlike }
-    ensures calls { PressesAsTheTwoCalls }
-{}
-
-// A sum or a difference of two integers in range comes into range by what 02 says once.
-pub fn sums_wrap_once()
-    ensures { (z v : Int) → InRange z → InRange v → WrapsOnce z v }
+    ensures calls { (t l : Bytes) (b : ℕ) (out un : Bytes) → AsTheTwoCalls t l b out un }
 {}
 
 // A case for each rule, a worked sequence and presses: these updates do go in and are taken back,

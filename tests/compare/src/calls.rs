@@ -12,17 +12,6 @@ pub trait Calls {
     fn update(&self, tuple: &[u8], list: &[u8], base: u64, out: &mut [u8]) -> Answer;
     fn undo(&self, tuple: &[u8], list: &[u8], base: u64, out: &mut [u8]) -> Answer;
     fn press(&self, tuple: &[u8], list: &[u8], base: u64, out: &mut [u8], undo: &mut [u8]) -> PressAnswer;
-    fn upsert(&self, given: &[u8], found: bool, tuple: &[u8], list: &[u8], base: u64, out: &mut [u8]) -> Answer;
-    fn upsert_undo(&self, given: &[u8], tuple: &[u8], list: &[u8], base: u64, out: &mut [u8]) -> Answer;
-    fn upsert_press(
-        &self,
-        given: &[u8],
-        tuple: &[u8],
-        list: &[u8],
-        base: u64,
-        out: &mut [u8],
-        undo: &mut [u8],
-    ) -> PressAnswer;
     fn session_open(&self, carry: &[u8]) -> SessionOpening;
     fn session_reset(&self) -> raw::Session;
     fn session_feed(&self, session: raw::Session, piece: &[u8], carry: &mut [u8]) -> SessionAnswer;
@@ -68,26 +57,6 @@ impl Calls for Reference {
 
     fn press(&self, tuple: &[u8], list: &[u8], base: u64, out: &mut [u8], undo: &mut [u8]) -> PressAnswer {
         deliver_both(updates::press(tuple, list, base), out, undo)
-    }
-
-    fn upsert(&self, given: &[u8], found: bool, tuple: &[u8], list: &[u8], base: u64, out: &mut [u8]) -> Answer {
-        deliver(updates::upsert(given, found.then_some(tuple), list, base), out)
-    }
-
-    fn upsert_undo(&self, given: &[u8], tuple: &[u8], list: &[u8], base: u64, out: &mut [u8]) -> Answer {
-        deliver(updates::upsert_undo(given, tuple, list, base), out)
-    }
-
-    fn upsert_press(
-        &self,
-        given: &[u8],
-        tuple: &[u8],
-        list: &[u8],
-        base: u64,
-        out: &mut [u8],
-        undo: &mut [u8],
-    ) -> PressAnswer {
-        deliver_both(updates::upsert_press(given, tuple, list, base), out, undo)
     }
 
     fn session_open(&self, carry: &[u8]) -> SessionOpening {
@@ -262,33 +231,6 @@ impl Calls for Interface {
         unsafe { raw::lak_press(tuple.as_ptr(), n, list.as_ptr(), m, base, out, room, undo, undo_room) }
     }
 
-    fn upsert(&self, given: &[u8], found: bool, tuple: &[u8], list: &[u8], base: u64, out: &mut [u8]) -> Answer {
-        let (g, n, m, room) = (given.len(), tuple.len(), list.len(), out.len());
-        let (given, tuple, list, out) = (given.as_ptr(), tuple.as_ptr(), list.as_ptr(), out.as_mut_ptr());
-        unsafe { raw::lak_upsert(given, g, found, tuple, n, list, m, base, out, room) }
-    }
-
-    fn upsert_undo(&self, given: &[u8], tuple: &[u8], list: &[u8], base: u64, out: &mut [u8]) -> Answer {
-        let (g, n, m, room) = (given.len(), tuple.len(), list.len(), out.len());
-        let (given, tuple, list, out) = (given.as_ptr(), tuple.as_ptr(), list.as_ptr(), out.as_mut_ptr());
-        unsafe { raw::lak_upsert_undo(given, g, tuple, n, list, m, base, out, room) }
-    }
-
-    fn upsert_press(
-        &self,
-        given: &[u8],
-        tuple: &[u8],
-        list: &[u8],
-        base: u64,
-        out: &mut [u8],
-        undo: &mut [u8],
-    ) -> PressAnswer {
-        let (g, n, m, room, undo_room) = (given.len(), tuple.len(), list.len(), out.len(), undo.len());
-        let (given, tuple, list) = (given.as_ptr(), tuple.as_ptr(), list.as_ptr());
-        let (out, undo) = (out.as_mut_ptr(), undo.as_mut_ptr());
-        unsafe { raw::lak_upsert_press(given, g, tuple, n, list, m, base, out, room, undo, undo_room) }
-    }
-
     fn session_open(&self, carry: &[u8]) -> SessionOpening {
         unsafe { raw::lak_session_open(carry.as_ptr(), carry.len()) }
     }
@@ -330,27 +272,9 @@ impl Calls for Bindings {
     }
 
     fn press(&self, tuple: &[u8], list: &[u8], base: u64, out: &mut [u8], undo: &mut [u8]) -> PressAnswer {
-        bound_press(laksubinat::press(tuple, list, base, out, undo))
-    }
-
-    fn upsert(&self, given: &[u8], found: bool, tuple: &[u8], list: &[u8], base: u64, out: &mut [u8]) -> Answer {
-        bound(laksubinat::upsert(given, found.then_some(tuple), list, base, out))
-    }
-
-    fn upsert_undo(&self, given: &[u8], tuple: &[u8], list: &[u8], base: u64, out: &mut [u8]) -> Answer {
-        bound(laksubinat::upsert_undo(given, tuple, list, base, out))
-    }
-
-    fn upsert_press(
-        &self,
-        given: &[u8],
-        tuple: &[u8],
-        list: &[u8],
-        base: u64,
-        out: &mut [u8],
-        undo: &mut [u8],
-    ) -> PressAnswer {
-        bound_press(laksubinat::upsert_press(given, tuple, list, base, out, undo))
+        let pressed = laksubinat::press(tuple, list, base, out, undo);
+        let Answer { number, operation, length, place } = bound(pressed.map(|(length, _)| length));
+        PressAnswer { number, operation, length, undo_length: pressed.map_or(0, |(_, length)| length as u64), place }
     }
 
     // The crate's session owns its carry buffer and takes no other: `stream` compares it, and here is the interface.
@@ -375,11 +299,6 @@ fn bound(result: Result<usize, Error>) -> Answer {
             Answer { number: error.number(), operation, length: 0, place: placed(error.place()) }
         }
     }
-}
-
-fn bound_press(pressed: Result<(usize, usize), Error>) -> PressAnswer {
-    let Answer { number, operation, length, place } = bound(pressed.map(|(length, _)| length));
-    PressAnswer { number, operation, length, undo_length: pressed.map_or(0, |(_, length)| length as u64), place }
 }
 
 fn bound_value(value: laksubinat::Value, bytes: &[u8]) -> ValueAnswer {
