@@ -1,4 +1,6 @@
 // Keys that a frame may leave out: two theorems over the definitions that the calls' contracts cite.
+#![tactic(auto)]
+
 ghost use Rattle.frame_absent_keys.specs.Absent.{AbsentKeys};
 ghost use Rattle.frame_absent_keys.specs.Before.{Narrowed};
 

@@ -1,4 +1,6 @@
 // The report on the first frame of the input that is refused: which frame, why, where, and the bytes around the place.
+#![tactic(auto)]
+
 ghost use Rattle.std.specs.Prelude.{◌≡◌, ◌∷◌, ◌++◌, ◌+◌, ◌≤◌, length, take};
 ghost use Rattle.msgpack_writing.specs.Put.{put, next};
 ghost use Rattle.frame_listing_fields.specs.Text.{text, decimal};

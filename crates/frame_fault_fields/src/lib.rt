@@ -1,4 +1,6 @@
 // The parts of a report, each written into the rest of a lent buffer: the words of a refusal, and the bytes around a place in hexadecimal.
+#![tactic(auto)]
+
 ghost use Rattle.std.specs.Prelude.{◌≡◌, ◌+◌, ◌<◌};
 ghost use Rattle.msgpack_writing.specs.Put.{put, next};
 ghost use Rattle.frame_fault_fields.specs.Words.{words_of};

@@ -1,4 +1,6 @@
 // What a frame holds under its known keys, looked up in the tables of its header and body.
+#![tactic(auto)]
+
 ghost use Rattle.std.specs.Prelude.{◌≡◌, ℕ};
 ghost use Rattle.msgpack_scalars.specs.Integer.{unsigned};
 ghost use Rattle.frames.specs.Held.{all, view, as_number, number_in};

@@ -1,4 +1,6 @@
 // What a known key of a record holds: whether it is sound, suits its rule, is written, and how long it is then.
+#![tactic(auto)]
+
 ghost use Rattle.std.specs.Prelude.{◌≡◌, ◌+◌};
 ghost use Rattle.frames.specs.Held.{number, bytes as encoding, suits, encoded};
 ghost use Rattle.frames.specs.Writing.{sound};
@@ -8,7 +10,7 @@ use frames::{Place, Rule};
 use msgpack_values::Read;
 
 // What a known key holds: nothing, a place outside its bytes, a number, or the value at a place.
-#[derive(Drop)]
+#[derive(Clone, Copy)]
 pub enum Content {
     Absent,
     Outside,
@@ -16,7 +18,7 @@ pub enum Content {
     View(Place),
 }
 
-#[derive(Drop)]
+#[derive(Clone, Copy)]
 pub struct KnownKey {
     pub key: u8,
     pub rule: Rule,

@@ -1,4 +1,6 @@
 // What the writer refuses, judged over a record: its values, their types, its required keys, its length.
+#![tactic(auto)]
+
 ghost use Rattle.std.specs.Prelude.{◌≡◌, ℕ, ◌+◌, ◌≤◌};
 ghost use Rattle.msgpack_first_bytes.specs.Bytes.{pick};
 ghost use Rattle.frames.specs.Held.{all, encoded, is_some, locate};
@@ -13,7 +15,7 @@ use frames::{Frame, HEADER_KEYS, KNOWN_KEYS, MAX_SIZE};
 
 // What the writer asks of a run of known keys: 4, 9, how many pairs it writes, and how long they
 // are together, counted up to one more than a frame has.
-#[derive(Drop)]
+#[derive(Clone, Copy)]
 pub struct Judgement {
     pub sound: bool,
     pub suited: bool,

@@ -1,4 +1,6 @@
 // The known keys of a record by their order, header and then body.
+#![tactic(auto)]
+
 ghost use Rattle.std.specs.Prelude.{◌≡◌};
 ghost use Rattle.frame_items.specs.Content.{number_content, place_content, content_at, known_key_at};
 

@@ -1,4 +1,6 @@
 // The listing: a line for each frame of the input, and how the input ended.
+#![tactic(auto)]
+
 ghost use Rattle.std.specs.Prelude.{◌≡◌, ◌++◌, ◌+◌, ◌*◌, ◌<◌, ◌≤◌, length, take, drop};
 ghost use Rattle.msgpack_writing.specs.Put.{put, next};
 ghost use Rattle.frame_listing_fields.specs.Steps.{ended};
@@ -42,7 +44,7 @@ fn write_last(out: &mut [u8], how: &[u8], n: u64) -> usize
 }
 
 // How long a line is, and how many bytes of the input it is for: none where it is the last.
-#[derive(Drop)]
+#[derive(Clone, Copy)]
 struct Line {
     length: usize,
     bytes: usize,

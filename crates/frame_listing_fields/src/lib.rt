@@ -1,4 +1,6 @@
 // The fields of the lines of a listing, each written into the rest of a lent buffer.
+#![tactic(auto)]
+
 ghost use Rattle.std.specs.Prelude.{◌≡◌, ◌++◌, ◌≤◌, length, take, drop};
 ghost use Rattle.msgpack_writing.specs.Put.{put, next};
 ghost use Rattle.frame_listing_fields.specs.Text.{text};
@@ -37,7 +39,7 @@ pub fn write_number(out: &mut [u8], at: usize, n: u64, end: u8) -> usize
 }
 
 // The name of a kind: the first `length` of `bytes`.
-#[derive(Drop)]
+#[derive(Clone, Copy)]
 struct Kind {
     length: usize,
     bytes: [u8; 7],

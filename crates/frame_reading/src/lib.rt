@@ -1,4 +1,6 @@
 // Reading a frame: the size number, then header and body, each refusal in document 01's order.
+#![tactic(auto)]
+
 ghost use Rattle.std.specs.Prelude.{◌≡◌};
 ghost use Rattle.frames.specs.Codes.{required};
 ghost use Rattle.frames.specs.Keys.{empty_frame};
@@ -13,7 +15,7 @@ use msgpack_scalars::Natural;
 use msgpack_values::{OptionalNumber, Read};
 
 // Whether a body follows the header, and where.
-#[derive(Drop)]
+#[derive(Clone, Copy)]
 enum Body {
     At(usize),
     Missing,

@@ -1,4 +1,6 @@
 // What a known key must hold, and what a code requires: the two judgements that reading and writing share.
+#![tactic(auto)]
+
 ghost use Rattle.std.specs.Prelude.{◌≡◌};
 ghost use Rattle.msgpack_scalars.specs.Start.{start_by};
 ghost use Rattle.msgpack_scalars.specs.Header.{header};
@@ -10,7 +12,7 @@ use frames::{Line, MAX_32, MAX_64, MAX_BASE, Rule};
 use msgpack_scalars::{Header, Natural, Opening};
 
 // The body keys that a code requires: the first `count` of `keys`, the others 0; not known: no such code.
-#[derive(Drop)]
+#[derive(Clone, Copy)]
 pub struct Needs {
     pub known: bool,
     pub count: usize,

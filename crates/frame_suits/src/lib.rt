@@ -1,4 +1,6 @@
 // Whether the known keys of a header and of a body hold what they must.
+#![tactic(auto)]
+
 ghost use Rattle.std.specs.Prelude.{◌≡◌, ◌≤◌};
 ghost use Rattle.std.proofs.Math.Seq.{slice};
 ghost use Rattle.frames.specs.Limits.{known_keys};

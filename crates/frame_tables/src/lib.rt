@@ -1,4 +1,6 @@
 // A map of a frame into a table: one pass, after which each key is a look-up.
+#![tactic(auto)]
+
 ghost use Rattle.std.specs.Prelude.{◌≡◌, get_or};
 ghost use Rattle.frames.specs.Keys.{nowhere};
 ghost use Rattle.frames.specs.Limits.{held_depth};
@@ -10,7 +12,7 @@ use msgpack_scalars::{Header, Natural, Opening};
 use msgpack_values::Read;
 
 // One key of a map with its value's start and length, or that it is no key.
-#[derive(Drop)]
+#[derive(Clone, Copy)]
 enum Step {
     Entry(usize, usize, usize),
     NoKey,

@@ -1,4 +1,6 @@
 // Writing a frame: every refusal before the first byte, then each piece into the rest of the lent buffer.
+#![tactic(auto)]
+
 ghost use Rattle.std.specs.Prelude.{◌≡◌, ◌∷◌, ◌+◌, ◌≤◌, length};
 ghost use Rattle.frames.specs.Limits.{known_keys};
 ghost use Rattle.frames.specs.Held.{encoded};

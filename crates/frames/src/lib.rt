@@ -1,5 +1,7 @@
 // The record of a frame and what the calls on frames answer, for Rust and C alike; their definitions stand in specs/.
 
+#![tactic(auto)]
+
 use msgpack_values::OptionalNumber;
 
 // Document 01's limits of frames; `specs/Limits.antt` has the same, each under its sentence.
@@ -24,7 +26,7 @@ pub const KNOWN_KEYS: usize = 17;
 
 // The place of a value that a frame may leave out: exactly its encoding, counted from the first lent byte.
 #[repr(C)]
-#[derive(Drop)]
+#[derive(Clone, Copy)]
 pub struct Place {
     pub present: bool,
     pub start: usize,
@@ -33,7 +35,7 @@ pub struct Place {
 
 // What a frame holds under its known keys.
 #[repr(C)]
-#[derive(Drop)]
+#[derive(Clone, Copy)]
 pub struct Frame {
     pub code: u64,
     pub sync: OptionalNumber,
@@ -57,7 +59,7 @@ pub struct Frame {
 // What reading a frame answers: 0 with its length and record, or a refusal's number with length 0 and an empty record; with 4 also the
 // place of the first byte that spoils the frame, counted from its start.
 #[repr(C)]
-#[derive(Drop)]
+#[derive(Clone, Copy)]
 pub struct FrameAnswer {
     pub number: u32,
     pub length: usize,
@@ -67,21 +69,21 @@ pub struct FrameAnswer {
 
 // What writing a frame answers: 0 with the length written, or a refusal's number with length 0.
 #[repr(C)]
-#[derive(Drop)]
+#[derive(Clone, Copy)]
 pub struct Written {
     pub number: u32,
     pub length: usize,
 }
 
 // What a size number says: so many bytes are promised from a place on, or the number of its refusal and how many bytes settle that.
-#[derive(Drop)]
+#[derive(Clone, Copy)]
 pub enum Size {
     Promises(usize, usize),
     Refused(u32, usize),
 }
 
 // What a known key must hold.
-#[derive(Drop)]
+#[derive(Clone, Copy)]
 pub enum Rule {
     AtMost(u64),
     Array,
@@ -90,7 +92,7 @@ pub enum Rule {
 }
 
 // A known key and what it must hold: a line of document 01's tables.
-#[derive(Drop)]
+#[derive(Clone, Copy)]
 pub struct Line {
     pub key: u8,
     pub rule: Rule,

@@ -1,4 +1,6 @@
 // Document 01's known examples of frames and of updates that are to be proved together.
+#![tactic(auto)]
+
 ghost use Rattle.std.specs.Prelude.{◌≡◌, map};
 ghost use Rattle.known_examples.specs.Table.{answered, table};
 

@@ -1,5 +1,7 @@
 // The calls for C and Rust, thin over the layers below: the C library `liblaksubinat.a`, whose
 // header is include/laksubinat.h. A slice is a pointer and a length in C; structs go by value.
+#![tactic(auto)]
+
 ghost use Rattle.std.specs.Prelude.{◌≡◌, List};
 ghost use Rattle.std.proofs.Math.Option.{some};
 ghost use Rattle.msgpack_first_bytes.specs.Bytes.{Bytes};

@@ -1,5 +1,7 @@
 // The first byte of a MessagePack value: a table with an entry for each, and the decision over ranges
 // that it is held to.
+#![tactic(auto)]
+
 mod table;
 
 ghost use Rattle.std.specs.Prelude.{◌≡◌, eqb, ◌+◌, ◌*◌, ◌^◌, ◌<◌, ◌≤◌};
@@ -8,7 +10,7 @@ ghost use Rattle.msgpack_first_bytes.specs.Entry.{entry_of, Told, positive_fixin
 ghost use Rattle.msgpack_first_bytes.specs.Rows.{four, row_of};
 
 // What a value is that holds no other value.
-#[derive(Drop)]
+#[derive(Clone, Copy)]
 pub enum Kind {
     Nil,
     Boolean,
@@ -23,7 +25,7 @@ pub enum Kind {
 
 // What a first byte says: the kind, the number of length bytes that follow it, and what is due
 // by the first byte alone, in bytes (an ext's type is one) or, of an array or a map, in values.
-#[derive(Drop)]
+#[derive(Clone, Copy)]
 pub enum Form {
     Unused,
     Scalar(Kind, usize, usize),

@@ -1,4 +1,6 @@
 // What a value means, and a value read alone.
+#![tactic(auto)]
+
 ghost use Rattle.std.specs.Prelude.{◌≡◌, ◌+◌, ◌≤◌, length, get_or};
 ghost use Rattle.std.specs.Float.{binary32, binary64};
 ghost use Rattle.std.specs.Float.Ieee.{of_bits};
@@ -15,7 +17,7 @@ use msgpack_values::{OptionalNumber, Read};
 
 // What a value means. A float stands beside its bits, which say which NaN it is. A string, bin or
 // ext by the start and length of its content, a container by those of its whole encoding.
-#[derive(Drop)]
+#[derive(Clone, Copy)]
 pub enum Meaning {
     Absent,
     Nil,
@@ -31,7 +33,7 @@ pub enum Meaning {
 }
 
 // The answer for a value read alone: 0 with its length and meaning, or 4 with the place of the first byte that spoils it.
-#[derive(Drop)]
+#[derive(Clone, Copy)]
 pub struct Alone {
     pub number: u32,
     pub length: usize,

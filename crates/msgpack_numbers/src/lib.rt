@@ -1,10 +1,12 @@
 // Numbers of several bytes, the most significant first, put together by shifting.
+#![tactic(auto)]
+
 ghost use Rattle.std.specs.Prelude.{◌≡◌, ◌∷◌, ◌++◌, ℕ, ◌+◌, ◌*◌, ◌^◌, ◌<◌, ◌≤◌, length};
 ghost use Rattle.msgpack_first_bytes.specs.Bytes.{Bytes};
 ghost use Rattle.msgpack_numbers.specs.Number.{number, number_at, Below};
 ghost use Rattle.msgpack_numbers.specs.declared.Number.TheVariants.{Is};
 
-#[derive(Drop)]
+#[derive(Clone, Copy)]
 pub enum Number {
     Is(u64),
     Missing,

@@ -1,4 +1,6 @@
 // What is written is read back, and no shorter form is read as the same: theorems as contracts, so that the verdict names them.
+#![tactic(auto)]
+
 ghost use Rattle.msgpack_read_back.specs.Claims.{NumbersReadBack, StringsReadBack, ContainersReadBack, Shortest};
 
 // Every number from -2^63 to 2^64 - 1, whatever follows it.

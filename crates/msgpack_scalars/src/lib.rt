@@ -1,4 +1,6 @@
 // Unsigned numbers, integers, and the headers of strings, arrays and maps.
+#![tactic(auto)]
+
 ghost use Rattle.std.specs.Prelude.{◌≡◌, ◌+◌, ◌-◌, ◌*◌, ◌^◌, ◌<◌, ◌≤◌, length, drop};
 ghost use Rattle.msgpack_scalars.specs.Start.{scalar_of, array_by, map_by, start_by, Few};
 ghost use Rattle.msgpack_scalars.specs.Integer.{due, natural_of, signed_of, unsigned, signed, integer, shift_natural, shift_integer};
@@ -8,7 +10,7 @@ use msgpack_first_bytes::{Form, Kind};
 use msgpack_numbers::Number;
 
 // An unsigned number and the place after it; cut short; or the first byte starts none.
-#[derive(Drop)]
+#[derive(Clone, Copy)]
 pub enum Natural {
     Is(u64, usize),
     Cut,
@@ -16,14 +18,14 @@ pub enum Natural {
 }
 
 // An integer: FromZero(n) is n, BelowZero(m) is -1 - m.
-#[derive(Drop)]
+#[derive(Clone, Copy)]
 pub enum Int {
     FromZero(u64),
     BelowZero(u64),
 }
 
 // An integer and the place after it; cut short; or the first byte starts none.
-#[derive(Drop)]
+#[derive(Clone, Copy)]
 pub enum Integer {
     Is(Int, usize),
     Cut,
@@ -31,14 +33,14 @@ pub enum Integer {
 }
 
 // Whether a form begins what is asked for: its length bytes, and what is due by its first byte.
-#[derive(Drop)]
+#[derive(Clone, Copy)]
 pub enum Start {
     Here(usize, usize),
     Elsewhere,
 }
 
 // How many bytes are due after the first byte of a number of one kind, and there.
-#[derive(Drop)]
+#[derive(Clone, Copy)]
 pub enum Due {
     More(usize),
     Cut,
@@ -46,7 +48,7 @@ pub enum Due {
 }
 
 // Whose header is asked for.
-#[derive(Drop)]
+#[derive(Clone, Copy)]
 pub enum Opening {
     String,
     Array,
@@ -54,7 +56,7 @@ pub enum Opening {
 }
 
 // A length or a count, and the place after the header; or none of the kind asked for.
-#[derive(Drop)]
+#[derive(Clone, Copy)]
 pub enum Header {
     Is(usize, usize),
     Other,

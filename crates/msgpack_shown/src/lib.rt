@@ -1,4 +1,6 @@
 // A value read alone as C sees it: its meaning as numbers.
+#![tactic(auto)]
+
 ghost use Rattle.std.specs.Prelude.{◌≡◌};
 ghost use Rattle.msgpack_meanings.specs.Meaning.{alone};
 ghost use Rattle.msgpack_shown.specs.Shown.{bit, by_bits, by_content, integer_shown, meaning_shown, shown};
@@ -10,7 +12,7 @@ use msgpack_values::OptionalNumber;
 // The answer for a value read alone, as C sees it: 0 with its kind, length and content, or 4 with the place of the first byte that
 // spoils it, and else 0.
 #[repr(C)]
-#[derive(Drop)]
+#[derive(Clone, Copy)]
 pub struct ValueAnswer {
     pub number: u32,
     pub kind: u32,

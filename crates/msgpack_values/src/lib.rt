@@ -1,4 +1,6 @@
 // One MessagePack value at a place of a slice, held to a depth.
+#![tactic(auto)]
+
 ghost use Rattle.std.specs.Prelude.{◌≡◌, ◌+◌, ◌-◌, ◌*◌, ◌^◌, ◌<◌, ◌≤◌, length, take, drop, true};
 ghost use Rattle.msgpack_first_bytes.specs.Entry.{length_bytes, kind_digit};
 ghost use Rattle.msgpack_numbers.specs.Number.{number};
@@ -8,7 +10,7 @@ ghost use Rattle.msgpack_values.specs.Tokens.{first_byte_entry, Width, Counts, v
 
 // Whole, with the place of the first byte after it; or broken, with the place of the first
 // spoiling byte: an unused first byte, a container one too deep, or the end of the bytes.
-#[derive(Drop)]
+#[derive(Clone, Copy)]
 pub enum Read {
     Whole(usize),
     Broken(usize),
@@ -16,7 +18,7 @@ pub enum Read {
 
 // A number that may be absent; then it is all 0.
 #[repr(C)]
-#[derive(Drop)]
+#[derive(Clone, Copy)]
 pub struct OptionalNumber {
     pub present: bool,
     pub value: u64,
@@ -30,7 +32,7 @@ pub const NO_PLACE: OptionalNumber = OptionalNumber {
 // What stands at a place, as far as its first bytes tell: a value, with the place after it, and of one with a
 // single length byte also that of its head; a container, with the number, place and depth of its values; or
 // what is broken.
-#[derive(Drop)]
+#[derive(Clone, Copy)]
 enum Token {
     Past(usize),
     Headed(usize, usize),
@@ -39,7 +41,7 @@ enum Token {
 }
 
 // An item that is read: the place after it, and where its head stands, if others may have the same; or broken.
-#[derive(Drop)]
+#[derive(Clone, Copy)]
 enum Item {
     Past(usize),
     Headed(usize, usize),
@@ -47,7 +49,7 @@ enum Item {
 }
 
 // What is inside arrays of one: its place, the depth that it may have, the entry of its first byte.
-#[derive(Drop)]
+#[derive(Clone, Copy)]
 struct Inner {
     at: usize,
     depth: usize,
@@ -55,7 +57,7 @@ struct Inner {
 }
 
 // Where the items with the same head end, and how many are left from the last of them on.
-#[derive(Drop)]
+#[derive(Clone, Copy)]
 struct Run {
     end: usize,
     left: usize,

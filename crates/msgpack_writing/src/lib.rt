@@ -1,10 +1,12 @@
 // Shortest numbers, the shortest headers of strings, arrays and maps, and copies, each written into the rest of a lent buffer.
+#![tactic(auto)]
+
 ghost use Rattle.std.specs.Prelude.{◌≡◌, ◌++◌, ◌+◌, ◌^◌, ◌<◌, ◌≤◌, length, drop};
 ghost use Rattle.msgpack_writing.specs.Forms.{tagged, unsigned_form, negative_form, string_header, count_header, array_header, map_header};
 ghost use Rattle.msgpack_writing.specs.Put.{put, next};
 
 // A first byte, a number, and how many of its low bytes follow.
-#[derive(Drop)]
+#[derive(Clone, Copy)]
 struct Head(u8, u64, usize);
 
 // From the last byte to the first, at the front of `out`.

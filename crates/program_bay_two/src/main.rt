@@ -1,6 +1,8 @@
 // The story of bay two on its own bytes: one press of the wash-mode button, an update frame with
 // `^`, arrives twice; the record after each, the undo lists beside them, and both presses taken
 // back. One call does a press: record and undo list, or neither; one press is refused.
+#![tactic(auto)]
+
 use libc::STDOUT_FILENO;
 use update_parts::bytes_of;
 
@@ -8,7 +10,7 @@ const UPDATE: u64 = 0x04;
 
 // What a press came to: it went in, with the bytes written of the new record and of its undo list;
 // or the frame, its kind or the call kept it out, with the refusal's number.
-#[derive(Drop)]
+#[derive(Clone, Copy)]
 enum Press {
     In(usize, usize),
     NoFrame(u32),

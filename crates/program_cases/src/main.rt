@@ -1,5 +1,7 @@
 // Worked cases from lines of text on standard input, a line of output for each, which the gate
 // compares with what a second implementation says. A line begins with the call that it is for.
+#![tactic(auto)]
+
 mod frame_cases;
 mod session_cases;
 mod text;

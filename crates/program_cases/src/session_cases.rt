@@ -7,7 +7,7 @@ use msgpack_values::OptionalNumber;
 use sessions::{Session, SessionAnswer};
 
 // The session after the steps so far, and how many of the line's bytes they took.
-#[derive(Drop)]
+#[derive(Clone, Copy)]
 struct Run {
     session: Session,
     taken: usize,

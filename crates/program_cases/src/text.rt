@@ -66,7 +66,7 @@ fn digit(b: u8) -> u8
 }
 
 // A byte of a field, how often it stands there, and where the field goes on.
-#[derive(Drop)]
+#[derive(Clone, Copy)]
 struct Piece {
     byte: u8,
     times: usize,

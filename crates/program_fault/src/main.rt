@@ -1,4 +1,6 @@
 // The fault program: the first frame on standard input that is refused, why, and the bytes around the place that spoils it.
+#![tactic(auto)]
+
 use libc::STDOUT_FILENO;
 
 fn print_report(input: &[u8], out: &mut [u8]) {

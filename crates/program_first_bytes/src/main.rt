@@ -1,4 +1,6 @@
 // The page of first bytes, docs/FIRST_BYTES.md, made from the entries of the table alone.
+#![tactic(auto)]
+
 mod entries;
 mod text;
 mod words;

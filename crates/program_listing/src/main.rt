@@ -1,4 +1,6 @@
 // The listing program: the frames on standard input, a line for each, and how the input ended.
+#![tactic(auto)]
+
 use libc::STDOUT_FILENO;
 
 fn print_listing(input: &[u8], out: &mut [u8]) {

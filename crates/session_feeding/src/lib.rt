@@ -1,4 +1,6 @@
 // A session opened, fed and reset; the frame that a feed shows.
+#![tactic(auto)]
+
 ghost use Rattle.std.specs.Prelude.{◌≡◌, ◌+◌, ◌-◌, ◌≤◌, min, ◌++◌, length, take, ◌==◌};
 ghost use Rattle.msgpack_first_bytes.specs.Bytes.{pick};
 ghost use Rattle.frames.specs.Cascade.{check};
@@ -199,7 +201,7 @@ fn idle(number: u32, place: OptionalNumber, session: Session) -> SessionAnswer
 }
 
 // What reading the frame at hand answers, and how many bytes settle it.
-#[derive(Drop)]
+#[derive(Clone, Copy)]
 struct AtHand {
     stop: usize,
     answer: FrameAnswer,

@@ -1,5 +1,7 @@
 // Frames taken as the line delivers them: what a session is and what a feed answers; their definitions stand in specs/.
 // The claim about cutting speaks of `feed_of` and `carry_of`, which `session_feeding::feed` is proved to answer and to leave.
+#![tactic(auto)]
+
 ghost use Rattle.sessions.specs.Cutting.{EveryCutting, AnyTwo};
 
 use frames::Frame;
@@ -10,7 +12,7 @@ pub const CARRY_ROOM: usize = 60_009;
 
 // What one feed leaves for the next.
 #[repr(C)]
-#[derive(Drop)]
+#[derive(Clone, Copy)]
 pub struct Session {
     // the length of all frames answered since the opening or reset, going round at 2^64
     pub offset: u64,
@@ -23,7 +25,7 @@ pub struct Session {
 }
 
 #[repr(C)]
-#[derive(Drop)]
+#[derive(Clone, Copy)]
 pub struct SessionOpening {
     pub number: u32,
     pub session: Session,
@@ -31,7 +33,7 @@ pub struct SessionOpening {
 
 // What a feed answers: 0 with a frame, 1 where it is not settled yet, or a refusal's number.
 #[repr(C)]
-#[derive(Drop)]
+#[derive(Clone, Copy)]
 pub struct SessionAnswer {
     pub number: u32,
     // the frame is shown from the carry buffer's start, else from the piece's

@@ -1,4 +1,6 @@
 // Where a value broke: three theorems over the definitions that the calls' contracts cite.
+#![tactic(auto)]
+
 ghost use Rattle.spoiled_places.specs.First.{EveryPlace};
 ghost use Rattle.spoiled_places.specs.Given.{AcceptedAreWhole, GivenExactly};
 

@@ -1,5 +1,7 @@
 // Updating a tuple and undoing it: the definitions are in specs/, and the theorems about them are
 // what the functions below ensure. No code runs here.
+#![tactic(auto)]
+
 ghost use Rattle.std.specs.Prelude.{ℕ, ◌≡◌, List, map};
 ghost use Rattle.std.proofs.Math.Option.{some};
 ghost use Rattle.msgpack_first_bytes.specs.Bytes.{Bytes};
@@ -26,7 +28,7 @@ pub const MAX_OPERATIONS: usize = 64;
 pub const MAX_LIST: usize = 32768;
 
 // Why an update or an undo is refused; `number_of` gives document 01's number of each.
-#[derive(Drop)]
+#[derive(Clone, Copy)]
 pub enum Refusal {
     BadTuple,
     BadList,
@@ -42,7 +44,7 @@ pub enum Refusal {
 // 16 the operation's index. With 11 the place of the first byte that spoils the tuple, read as one
 // value; with 12 that of the list; absent where that value is whole.
 #[repr(C)]
-#[derive(Drop)]
+#[derive(Clone, Copy)]
 pub struct Answer {
     pub number: u32,
     pub operation: u32,
@@ -53,7 +55,7 @@ pub struct Answer {
 // A press's answer: 0 with the two lengths written, or a refusal's number with both lengths 0, and
 // with 13 to 16 the operation's index. The place is as in the two calls' answers.
 #[repr(C)]
-#[derive(Drop)]
+#[derive(Clone, Copy)]
 pub struct PressAnswer {
     pub number: u32,
     pub operation: u32,

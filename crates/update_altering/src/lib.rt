@@ -1,5 +1,7 @@
 // Fields altered: numbers computed by `+ - & ^ |` and strings spliced, each in its shortest form, behind the
 // bytes of a work array that are in use.
+#![tactic(auto)]
+
 ghost use Rattle.std.specs.Prelude.{◌≡◌, [], ◌∷◌, ◌+◌, ◌-◌, ◌^◌, ◌<◌, ◌≤◌, length, take, drop};
 ghost use Rattle.std.proofs.Math.Seq.{paste};
 ghost use Rattle.msgpack_writing.specs.Forms.{string_form};
@@ -21,7 +23,7 @@ use update_parts::Span;
 use update_places::{IN_LIST, IN_WORK};
 
 // Where the new field ends in the work array; why there is none; or it has no room there.
-#[derive(Drop)]
+#[derive(Clone, Copy)]
 pub enum Altered {
     Is(usize),
     Refused(Refusal),

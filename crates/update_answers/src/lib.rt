@@ -1,4 +1,6 @@
 // What a call answers, and what it writes into the lent buffer.
+#![tactic(auto)]
+
 ghost use Rattle.std.specs.Prelude.{◌≡◌};
 ghost use Rattle.tuples.specs.Call.{number_of, spoiled_in};
 ghost use Rattle.update_answers.specs.Seen.{refusal_of, answer_at};

@@ -1,4 +1,6 @@
 // Numbers computed by `+ - & ^ |` from a field and an argument.
+#![tactic(auto)]
+
 ghost use Rattle.std.specs.Prelude.{◌≡◌, ◌+ℤ◌, ◌-ℤ◌};
 ghost use Rattle.msgpack_first_bytes.specs.Bytes.{pick};
 ghost use Rattle.tuples.specs.Decoding.{any_integer, at_least};
@@ -16,7 +18,7 @@ use update_places::{IN_LIST, IN_WORK};
 use update_sums::Sum;
 
 // A number; or why there is none.
-#[derive(Drop)]
+#[derive(Clone, Copy)]
 pub enum Computed {
     Is(Int),
     Refused(Refusal),

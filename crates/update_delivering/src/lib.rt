@@ -1,5 +1,7 @@
 // What a list came to on a tuple, written into lent buffers: the new tuple gathered once from the places of its
 // fields, after everything is judged; the undo list from its entries.
+#![tactic(auto)]
+
 ghost use Rattle.std.specs.Prelude.{◌≡◌, ◌++◌, ◌+◌, ◌-◌, ◌^◌, ◌<◌, ◌≤◌, length, take, drop};
 ghost use Rattle.msgpack_first_bytes.specs.Bytes.{pick};
 ghost use Rattle.msgpack_values.specs.Pieces.{joined};
@@ -22,7 +24,7 @@ use update_running::{Ran, Stage};
 
 // What a call came to: the arrays have no room; the work array was full, and the fields up to there stand as a
 // tuple in the spare buffer: its length, the place and the index of the next operation; a refusal; the length.
-#[derive(Drop)]
+#[derive(Clone, Copy)]
 pub enum Tried {
     NoRoom,
     Moved(usize, usize, usize),
@@ -31,7 +33,7 @@ pub enum Tried {
 }
 
 // The same of a press, with both lengths.
-#[derive(Drop)]
+#[derive(Clone, Copy)]
 pub enum Pressed {
     NoRoom,
     Refused(Refusal, usize),
@@ -41,7 +43,7 @@ pub enum Pressed {
 // ---- the new tuple
 
 // Where places that lie side by side end, and the entry after them.
-#[derive(Drop)]
+#[derive(Clone, Copy)]
 struct Run {
     end: usize,
     next: usize,

@@ -1,4 +1,6 @@
 // A tuple judged, and the places of its fields in a table.
+#![tactic(auto)]
+
 ghost use Rattle.std.specs.Prelude.{◌≡◌, ◌<◌, ◌≤◌, length, drop};
 ghost use Rattle.msgpack_values.specs.Value.{shift, value, items};
 ghost use Rattle.msgpack_values.specs.Pieces.{pieces};
@@ -12,7 +14,7 @@ use update_parts::Natural;
 
 // So many fields, and where the first stands; the tuple is outside the rules, refusal 11; or the table
 // has fewer entries.
-#[derive(Drop)]
+#[derive(Clone, Copy)]
 pub enum Loaded {
     Bad,
     NoRoom,

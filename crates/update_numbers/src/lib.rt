@@ -1,4 +1,6 @@
 // The numbers of an operation, each at a place of the bytes.
+#![tactic(auto)]
+
 ghost use Rattle.std.specs.Prelude.{◌≡◌, drop};
 ghost use Rattle.tuples.specs.Decoding.{less, any_integer, at_least, position};
 ghost use Rattle.update_parts.specs.Part.{signed_by, natural_by};
@@ -8,7 +10,7 @@ use msgpack_scalars::{Int, Integer};
 use update_parts::{Natural, Signed};
 
 // A field by its number from 0, or a number below 0.
-#[derive(Drop)]
+#[derive(Clone, Copy)]
 pub enum Field {
     At(u64),
     Below,

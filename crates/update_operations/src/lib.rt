@@ -1,4 +1,6 @@
 // The operations of a list: one decoded, and what the front of a list tells.
+#![tactic(auto)]
+
 ghost use Rattle.std.specs.Prelude.{◌≡◌, drop};
 ghost use Rattle.tuples.specs.Operation.{three, five, action_of, operation};
 ghost use Rattle.update_operations.specs.Found.{integer_mark, natural_mark, action_by, opening, opened_by, decoded_by};
@@ -9,7 +11,7 @@ use update_numbers::Field;
 use update_parts::{Natural, Signed, Span};
 
 // `&`, `^` and `|`.
-#[derive(Drop)]
+#[derive(Clone, Copy)]
 pub enum Bitwise {
     And,
     Xor,
@@ -18,7 +20,7 @@ pub enum Bitwise {
 
 // What alters a field: `+` or `-` (true) with an integer; `&`, `^` or `|` with a number; `:` with the
 // position, from 0, the count, and the start of the argument, which ends where the operation ends.
-#[derive(Drop)]
+#[derive(Clone, Copy)]
 pub enum Change {
     Sum(bool, Int),
     Bits(Bitwise, u64),
@@ -26,7 +28,7 @@ pub enum Change {
 }
 
 // What an operation does. Of `=` and `!` the start of the argument, which ends where the operation ends.
-#[derive(Drop)]
+#[derive(Clone, Copy)]
 pub enum Action {
     Alter(Change),
     Assign(usize),
@@ -35,7 +37,7 @@ pub enum Action {
 }
 
 // An action, and the place after its operation.
-#[derive(Drop)]
+#[derive(Clone, Copy)]
 pub enum Found {
     Is(Action, usize),
     Bad,
@@ -43,21 +45,21 @@ pub enum Found {
 
 // How an operation begins: the count of its array, its mark, its field number as it was sent, and
 // the place of what follows.
-#[derive(Drop)]
+#[derive(Clone, Copy)]
 enum Opened {
     Is(u64, u64, Int, usize),
     Bad,
 }
 
 // An operation: its field, the index base taken off, its action, and the place after it.
-#[derive(Drop)]
+#[derive(Clone, Copy)]
 pub enum Decoded {
     Is(Field, Action, usize),
     Bad,
 }
 
 // The count of a list's operations, and the place of the first; or its front is refused.
-#[derive(Drop)]
+#[derive(Clone, Copy)]
 pub enum Listed {
     Good(usize, usize),
     Bad,

@@ -1,4 +1,6 @@
 // The parts of which an operation is read, each at a place of the bytes; its numbers are read above.
+#![tactic(auto)]
+
 ghost use Rattle.std.specs.Prelude.{◌≡◌, min, drop};
 ghost use Rattle.tuples.specs.Decoding.{any_value, string, count, mark};
 ghost use Rattle.update_parts.specs.Part.{part, natural_by, span_by};
@@ -7,21 +9,21 @@ use msgpack_scalars::{Header, Int, Opening};
 use msgpack_values::Read;
 
 // An integer and the place after it.
-#[derive(Drop)]
+#[derive(Clone, Copy)]
 pub enum Signed {
     Is(Int, usize),
     Bad,
 }
 
 // A number from 0 up and the place after it.
-#[derive(Drop)]
+#[derive(Clone, Copy)]
 pub enum Natural {
     Is(u64, usize),
     Bad,
 }
 
 // Bytes, from a start to an end.
-#[derive(Drop)]
+#[derive(Clone, Copy)]
 pub enum Span {
     Is(usize, usize),
     Bad,

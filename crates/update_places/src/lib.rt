@@ -1,4 +1,6 @@
 // A field of the tuple under work as a place: where its bytes stand, and how many they are.
+#![tactic(auto)]
+
 ghost use Rattle.std.specs.Prelude.{◌≡◌, ◌^◌, ◌<◌, take, drop};
 ghost use Rattle.msgpack_writing.specs.Put.{put, next};
 ghost use Rattle.update_places.specs.Place.{place_of, start_of, length_of, bytes_from};

@@ -1,4 +1,6 @@
 // An operation planned on the fields that are held.
+#![tactic(auto)]
+
 ghost use Rattle.std.specs.Prelude.{◌≡◌, ◌+◌, ◌-◌};
 ghost use Rattle.update_places.specs.Place.{in_list, place_of};
 ghost use Rattle.update_operations.specs.declared.Action.TheVariants.{Alter};
@@ -13,7 +15,7 @@ use update_places::{IN_LIST, IN_WORK};
 // What an operation does to the fields that it meets: it is refused; the work array has no room for what it
 // makes; a place comes for field f, with so many bytes of the work array in use then; one comes before
 // field f; so many fields go from f on.
-#[derive(Drop)]
+#[derive(Clone, Copy)]
 pub enum Planned {
     Refuse(Refusal),
     Full,

@@ -1,5 +1,7 @@
 // A list run on a tuple: each operation is read, planned and performed in one turn. An operation changes the
 // table of places; no byte of a field moves.
+#![tactic(auto)]
+
 ghost use Rattle.std.specs.Prelude.{◌≡◌, [], map, ℕ, ◌+◌, ◌-◌, ◌^◌, ◌<◌, ◌≤◌, min, length, set};
 ghost use Rattle.std.proofs.Math.Option.{some};
 ghost use Rattle.tuples.specs.Limits.{max_fields, max_operations};
@@ -33,7 +35,7 @@ const REMOVE: u64 = 0x23;
 // Between two operations. The fields: where their entries begin in the table, how many they are, their bytes
 // together. How many bytes of the work array are in use. The undo list: its operations and their bytes. How
 // many fields at the front and at the rear lie side by side.
-#[derive(Drop)]
+#[derive(Clone, Copy)]
 pub struct Stage {
     pub head: usize,
     pub fields: usize,
@@ -47,7 +49,7 @@ pub struct Stage {
 
 // What a list comes to: the arrays are too small for the tuple and the list; the work array is full at an
 // operation, given by its place and its index; it is refused; all is done.
-#[derive(Drop)]
+#[derive(Clone, Copy)]
 pub enum Ran {
     NoRoom,
     Full(Stage, usize, usize),
@@ -55,7 +57,7 @@ pub enum Ran {
     Done(Stage),
 }
 
-#[derive(Drop)]
+#[derive(Clone, Copy)]
 enum Performed {
     Stop(Refusal),
     Full,
@@ -64,20 +66,20 @@ enum Performed {
 
 // In the course of a run: the stage; or the refusal of an operation, after which what is left is only read,
 // since a list that is refused is refused before any of its operations.
-#[derive(Drop)]
+#[derive(Clone, Copy)]
 enum Course {
     Going(Stage),
     Stopped(Refusal, usize),
 }
 
-#[derive(Drop)]
+#[derive(Clone, Copy)]
 enum Stepped {
     Full(Stage),
     Next(Course),
 }
 
 // Of entries that go: the bytes of their fields, and of the operations that bring them back.
-#[derive(Drop)]
+#[derive(Clone, Copy)]
 struct Gone {
     bytes: usize,
     back: usize,

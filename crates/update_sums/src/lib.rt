@@ -1,4 +1,6 @@
 // Sums and differences of integers, where they are in range.
+#![tactic(auto)]
+
 ghost use Rattle.std.specs.Prelude.{◌≡◌, ◌+◌, pos, negsuc, ◌+ℤ◌, ◌-ℤ◌};
 ghost use Rattle.std.proofs.Math.IntN.{sub_ℕ};
 ghost use Rattle.tuples.specs.Edit.{asℤ};
@@ -10,7 +12,7 @@ const MOST: u64 = 0xffff_ffff_ffff_ffff;
 
 const SIGN: u64 = 0x8000_0000_0000_0000;
 
-#[derive(Drop)]
+#[derive(Clone, Copy)]
 pub enum Sum {
     Is(Int),
     OutOfRange,

@@ -1,4 +1,6 @@
 // The table of a tuple under work: an entry for each field. An edit changes entries, and moves no byte of a field.
+#![tactic(auto)]
+
 ghost use Rattle.std.specs.Prelude.{◌≡◌, ◌∷◌, ◌+◌, ◌<◌, ◌≤◌, length, drop};
 ghost use Rattle.std.proofs.Math.Seq.{paste};
 ghost use Rattle.update_table.specs.Table.{added, head_added, removed, head_removed};

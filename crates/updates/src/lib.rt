@@ -1,5 +1,7 @@
 // The update call, the undo call and the press call. Each is tried in short arrays first: to zero longer ones
 // takes longer than a small update.
+#![tactic(auto)]
+
 ghost use Rattle.std.specs.Prelude.{◌≡◌, ◌≤◌, length};
 ghost use Rattle.tuples.specs.Call.{update, undo, update_call, undo_call};
 ghost use Rattle.tuples.specs.Press.{press, press_call};
@@ -24,14 +26,14 @@ const SHORT_WORK: usize = 256;
 
 // What a list's front tells: so many operations, the first of them at a place; more than the limit where the
 // list is refused.
-#[derive(Drop)]
+#[derive(Clone, Copy)]
 struct Front {
     count: usize,
     start: usize,
 }
 
 // What a call comes to: the arrays have no room; a refusal; the length written.
-#[derive(Drop)]
+#[derive(Clone, Copy)]
 enum Call {
     NoRoom,
     Refused(Refusal, usize),

@@ -1,0 +1,16 @@
+-- Piece after piece.
+use mathlib.Core.List.{[], ◌∷◌, append_assoc}
+use borrow.Author.Rules.{rules}
+use Rattle.frame_listing_fields.specs.Text.{decimal}
+use Rattle.frame_listing_fields.specs.Steps.{ended}
+use Rattle.frame_fault_fields.proofs.Laying.{piece, also}
+use Rattle.frame_fault.proofs.write_counted.Goals as goal
+
+pub returns : goal.returns
+returns c =
+    let w3 = c.before.before in
+    let w2 = w3.before.before.before.before in
+    let w1 = w2.before.before.before.before in
+    let a = w1.args in
+    rw (append_assoc (decimal a.n) (a.end ∷ []) a.after.now) at
+    (also (piece a.before.now w1.write_bytes-to.ensures) (also (piece (ended a.n a.end) w2.write_number-to.ensures) (piece a.after.now w3.write_bytes.ensures)))

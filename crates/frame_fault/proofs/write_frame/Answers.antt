@@ -1,0 +1,16 @@
+-- Two numbers and the texts around them.
+use borrow.Author.Rules.{rules}
+use Rattle.frame_listing_fields.specs.Text.{text, decimal}
+use Rattle.frame_fault.specs.Fault.{frame_line}
+use Rattle.frame_fault_fields.proofs.Laying.{also}
+use Rattle.frame_fault.proofs.Lines.{twice}
+use Rattle.frame_fault.proofs.write_frame.Goals as goal
+
+pub returns : goal.returns
+unfolding frame_line
+returns c =
+    let w2 = c.before.before in
+    let w1 = w2.before.before.before.before.before.before in
+    let a = w1.args in
+    rw (twice (text "frame    ") (decimal a.frame) (text ", from byte ") (decimal a.from) (text " of the input\n")) at
+    (also w1.write_counted-to.ensures w2.write_counted.ensures)

@@ -1,9 +1,0 @@
--- 0 to 9, then a to f. Assumes nothing.
-use borrow.Author.Rules.{rules}
-use borrow.Author.Tests.{lt-ltb, le-ltb}
-use Rattle.frame_fault_fields.proofs.hex_digit.Statement.{statement}
-use Rattle.frame_fault_fields.proofs.hex_digit.Tie as tie
-
-pub hex-digit-spec : {M : Type 1} → statement M
-hex-digit-spec =
-    tie.close (tie.spec (λ c. search rules) (λ c. search rules) (λ c. rw (lt-ltb _ 10 c.if1.true)) (λ c. rw (le-ltb _ 10 c.if1.false)))

@@ -1,0 +1,52 @@
+-- Empty, or five lines that have room in the array.
+use mathlib.Core.Path.{◌≡◌, refl, sym}
+use mathlib.Core.List.{[]}
+use Prim.Native.Nat.{◌≤◌}
+use native.Mathlib.Omega.{arith}
+use borrow.Author.Rules.{rules}
+use borrow.Author.Tests.{le-leb, lt-leb}
+use lib.ListN.{length, take}
+use lib.Seq.{length-take-le}
+use Rattle.msgpack_writing.proofs.Put.{nothing}
+use Rattle.frame_fault_fields.specs.Dump.{cells, dump_start, dump}
+use Rattle.frame_fault_fields.proofs.Laying.{front}
+use Rattle.frame_fault_fields.proofs.Lengths.{cells-few}
+use Rattle.frame_fault_fields.proofs.write_dump.Goals.{After-lay_cells-length}
+use Rattle.frame_fault_fields.proofs.write_dump.Goals as goal
+
+-- the lines stand at the front of the array
+laid : (c : After-lay_cells-length)
+    → (let a = c.args in
+    (take c.lay_cells-length.result c.lay_cells-length.new.0 ≡ cells a.frame.now a.place (dump_start a.place) 80) × (c.lay_cells-length.result ≤ length c.lay_cells-length.new.0))
+laid c =
+    let i = c.before.before in
+    let d = i.before in
+    let a = d.args in
+    let h = i.if-from-gt-DUMP_LIMIT.false in
+    let e = d.dump_start-from.ensures in
+    let f = rw e at c.lay_cells-length.ensures in
+    front (cells a.frame.now a.place (dump_start a.place) 80) (cells-few a.frame.now a.place (omega arith)) f
+
+pub returns-then-from-gt-DUMP_LIMIT : goal.returns-then-from-gt-DUMP_LIMIT
+unfolding dump
+returns-then-from-gt-DUMP_LIMIT c =
+    let e = c.dump_start-from.ensures in
+    let a = c.args in
+    rw (lt-leb (dump_start a.place) 65536 (omega arith)) (nothing _ _ [] refl)
+
+pub returns : goal.returns
+unfolding dump
+returns c =
+    let w = c.before.before in
+    let l = w.before.before.before.before in
+    let d = l.before.before.before in
+    let a = d.args in
+    let e = d.dump_start-from.ensures in
+    let h = l.if-from-gt-DUMP_LIMIT.false in
+    rw (le-leb (dump_start a.place) 65536 (omega arith), ← (laid l).0) w.write_bytes.ensures
+
+pub slice_bounds-text-end : goal.slice_bounds-text-end
+slice_bounds-text-end c = (laid c.before.before).1
+
+pub slice_bounds-write_bytes-end : goal.slice_bounds-write_bytes-end
+slice_bounds-write_bytes-end c = sym (length-take-le _ _ (laid c.before.before.before).1)

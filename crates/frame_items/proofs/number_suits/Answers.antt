@@ -1,0 +1,16 @@
+-- By the rule.
+use Rattle.frames.specs.Held.{suits}
+use borrow.Author.Rules.{rules}
+use Rattle.frame_items.proofs.number_suits.Goals as goal
+
+pub returns-in-AtMost : goal.returns-in-AtMost
+returns-in-AtMost c = unfold suits in rw c.in-AtMost.is
+
+pub returns-in-Array : goal.returns-in-Array
+returns-in-Array c = unfold suits in rw c.in-Array.is
+
+pub returns-in-String : goal.returns-in-String
+returns-in-String c = unfold suits in rw c.in-String.is
+
+pub returns-in-Anything : goal.returns-in-Anything
+returns-in-Anything c = unfold suits in rw c.in-Anything.is

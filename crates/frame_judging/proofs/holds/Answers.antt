@@ -1,0 +1,41 @@
+-- The key, or the next.
+use mathlib.Core.Path.{◌≡◌, ap, ◌∙◌}
+use Prim.Native.Nat.{◌-◌, ◌≤◌}
+use mathlib.Core.List.{List}
+use Rattle.frames.specs.Limits.{known_keys}
+use Rattle.frames.specs.Held.{Held, encoded, is_some, Item, locate}
+use Rattle.frames.specs.Keys.{body_items}
+use Rattle.frame_items.specs.Content.{item_of}
+use Rattle.frame_judging.specs.Parts.{items_between}
+use Rattle.frame_judging.proofs.Runs.{run, no_run, body_run, locate_here, locate-on, is_present}
+use borrow.Author.Rules.{rules}
+use native.Mathlib.Omega.{arith}
+use Rattle.frame_judging.proofs.holds.Goals as goal
+
+pub loop-i-init : goal.loop-i-init
+loop-i-init c = let a = c.args in (omega arith, ap (λ (xs : List Item). locate xs a.key) (body_run a.frame a.bytes.now))
+
+pub returns-then-key-known : goal.returns-then-key-known
+unfolding item_of
+returns-then-key-known c =
+    let k = c.before.before.before in
+    let l = k.loop-i in
+    let a = k.args in
+    c.is_written.ensures
+    ∙ is_present a.bytes.now k.known_key-known.result.content
+    ∙ ap (λ (h : Held). is_some (encoded h)) (locate_here a.key (run a.frame a.bytes.now l.i known_keys k.known_key-known.ensures k.loop-i-test.true (omega arith)) c.if-key-known.true ∙ l.invariant.1)
+
+pub loop-i-preserved : goal.loop-i-preserved
+unfolding item_of
+loop-i-preserved c =
+    let k = c.before.before in
+    let l = k.loop-i in
+    let a = k.args in
+    (omega arith, locate-on a.key (run a.frame a.bytes.now l.i known_keys k.known_key-known.ensures k.loop-i-test.true (omega arith)) c.if-key-known.false ∙ l.invariant.1)
+
+pub returns : goal.returns
+unfolding locate is_some encoded
+returns c =
+    let l = c.loop-i in
+    let a = c.args in
+    ap (λ (h : Held). is_some (encoded h)) (rw (no_run a.frame a.bytes.now l.i known_keys (omega arith) (omega arith)) at l.invariant.1)

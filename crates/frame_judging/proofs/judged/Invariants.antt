@@ -1,0 +1,14 @@
+-- One key after the other.
+use Prim.Native.Nat.{◌-◌, ◌≤◌}
+use Rattle.frame_judging.specs.Parts.{items_between}
+use Rattle.frame_judging.proofs.Runs.{run, no_run}
+use Rattle.frame_judging.proofs.Passes.{Left, none_yet, next_turn, none_left}
+use borrow.Author.Rules.{rules}
+use native.Mathlib.Omega.{arith}
+use Rattle.frame_judging.proofs.judged.Given as goal
+
+abbrev pub invariant-loop-i : goal.invariant-loop-i
+invariant-loop-i l = ((l.i ≤ l.to) × (l.count ≤ l.i)) × Left (items_between l.from l.to l.frame l.bytes) (items_between l.i l.to l.frame l.bytes) l.sound l.suited l.count l.length
+
+abbrev pub decreases-loop-i : goal.decreases-loop-i
+decreases-loop-i l = l.to - l.i

@@ -1,0 +1,60 @@
+-- A line for each key.
+use borrow.Author.Rules.{rules}
+use Rattle.frame_rules.proofs.Laws.{none_below}
+use Rattle.frame_items.specs.Content.{content_at}
+use Rattle.frame_items.proofs.Laws.{content_past}
+use Rattle.frame_keys.proofs.content_of.Goals as goal
+
+pub returns-in-0 : goal.returns-in-0
+returns-in-0 c = unfold content_at in rw c.in-0.is
+
+pub returns-in-1 : goal.returns-in-1
+returns-in-1 c = unfold content_at in rw c.in-1.is c.number_content.ensures
+
+pub returns-in-2 : goal.returns-in-2
+returns-in-2 c = unfold content_at in rw c.in-2.is c.number_content-in-2.ensures
+
+pub returns-in-3 : goal.returns-in-3
+returns-in-3 c = unfold content_at in rw c.in-3.is c.number_content-in-3.ensures
+
+pub returns-in-4 : goal.returns-in-4
+returns-in-4 c = unfold content_at in rw c.in-4.is c.number_content-in-4.ensures
+
+pub returns-in-5 : goal.returns-in-5
+returns-in-5 c = unfold content_at in rw c.in-5.is c.number_content-in-5.ensures
+
+pub returns-in-6 : goal.returns-in-6
+returns-in-6 c = unfold content_at in rw c.in-6.is c.number_content-in-6.ensures
+
+pub returns-in-7 : goal.returns-in-7
+returns-in-7 c = unfold content_at in rw c.in-7.is c.number_content-in-7.ensures
+
+pub returns-in-8 : goal.returns-in-8
+returns-in-8 c = unfold content_at in rw c.in-8.is c.number_content-in-8.ensures
+
+pub returns-in-9 : goal.returns-in-9
+returns-in-9 c = unfold content_at in rw c.in-9.is c.place_content.ensures
+
+pub returns-in-10 : goal.returns-in-10
+returns-in-10 c = unfold content_at in rw c.in-10.is c.place_content-in-10.ensures
+
+pub returns-in-11 : goal.returns-in-11
+returns-in-11 c = unfold content_at in rw c.in-11.is c.place_content-in-11.ensures
+
+pub returns-in-12 : goal.returns-in-12
+returns-in-12 c = unfold content_at in rw c.in-12.is c.place_content-in-12.ensures
+
+pub returns-in-13 : goal.returns-in-13
+returns-in-13 c = unfold content_at in rw c.in-13.is c.place_content-in-13.ensures
+
+pub returns-in-14 : goal.returns-in-14
+returns-in-14 c = unfold content_at in rw c.in-14.is c.place_content-in-14.ensures
+
+pub returns-in-15 : goal.returns-in-15
+returns-in-15 c = unfold content_at in rw c.in-15.is c.place_content-in-15.ensures
+
+pub returns-in-16 : goal.returns-in-16
+returns-in-16 c = unfold content_at in rw c.in-16.is c.place_content-in-16.ensures
+
+pub returns-in_default : goal.returns-in_default
+returns-in_default c = rw (content_past _ _ _ (none_below _ _ c.in_default.in_default-own.rest))

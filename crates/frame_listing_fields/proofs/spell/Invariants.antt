@@ -1,0 +1,16 @@
+-- `spell` goes from the last digit to the first: the digits that are left, with those that stand, are all.
+use mathlib.Core.Path.{◌≡◌, ap, ◌∙◌}
+use mathlib.Core.List.{[], ◌∷◌, ◌++◌}
+use Prim.Native.Nat.{◌^◌, ◌<◌, ◌≤◌}
+use native.Mathlib.Omega.{arith}
+use lib.ListN.{length, drop, set, length-set, drop_of_length-le}
+use Rattle.frame_listing_fields.specs.Text.{decimal}
+use Rattle.frame_listing_fields.specs.Steps.{ended}
+use Rattle.frame_listing_fields.proofs.Decimal.{few, store, turn, last}
+use Rattle.frame_listing_fields.proofs.spell.Given as goal
+
+abbrev pub invariant-loop-rest : goal.invariant-loop-rest
+invariant-loop-rest l = (length l.text ≡ 21) × (l.i ≤ 20) × (0 < l.i) × (l.rest < 10 ^ 20) × (length (decimal l.rest) ≤ l.i) × (decimal l.rest ++ drop l.i l.text ≡ ended l.n l.end)
+
+abbrev pub decreases-loop-rest : goal.decreases-loop-rest
+decreases-loop-rest l = l.rest

@@ -1,0 +1,14 @@
+-- The key, then what it holds.
+use mathlib.Core.List.{[], ◌∷◌}
+use Rattle.msgpack_writing.specs.Forms.{big_endian}
+use Rattle.msgpack_writing.proofs.Put.{wrote, written, step}
+use borrow.Author.Rules.{rules}
+use Rattle.frame_writing.proofs.put_number.Goals as goal
+
+pub returns : goal.returns
+unfolding big_endian
+returns c =
+    let w = c.before.before in
+    let t = w.before.before.before.before in
+    let a = t.args in
+    written (step a.out.now a.at (a.key ∷ []) t.write_tagged-a.ensures t.requires (λ h. wrote _ _ _ w.write_unsigned.ensures h))

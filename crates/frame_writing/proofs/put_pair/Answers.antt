@@ -1,0 +1,31 @@
+-- By the content.
+use Rattle.frames.specs.Held.{encoded}
+use Rattle.frame_items.specs.Content.{held_of}
+use Rattle.frame_judging.specs.Parts.{pair_of}
+use Rattle.msgpack_writing.proofs.Put.{nothing}
+use borrow.Author.Rules.{rules}
+use Rattle.frame_writing.proofs.put_pair.Goals as goal
+
+pub put_number-requires : goal.put_number-requires
+unfolding held_of encoded pair_of
+put_number-requires c κs = let t = c.before.before in rw t.in-Number.is at t.requires
+
+pub put_view-requires : goal.put_view-requires
+unfolding held_of encoded pair_of
+put_view-requires c κs = let t = c.before.before.before in rw (t.in-View.is, ← c.view_of.ensures) at t.requires
+
+pub returns-in-Absent : goal.returns-in-Absent
+unfolding held_of encoded pair_of
+returns-in-Absent c = let a = c.args in nothing a.out.now a.at (pair_of a.key (encoded (held_of a.bytes.now a.content))) (rw c.in-Absent.is)
+
+pub returns-in-Outside : goal.returns-in-Outside
+unfolding held_of encoded pair_of
+returns-in-Outside c = let a = c.args in nothing a.out.now a.at (pair_of a.key (encoded (held_of a.bytes.now a.content))) (rw c.in-Outside.is)
+
+pub returns-in-Number : goal.returns-in-Number
+unfolding held_of encoded pair_of
+returns-in-Number c = let p = c.before.before in rw p.in-Number.is p.put_number.ensures
+
+pub returns-in-View : goal.returns-in-View
+unfolding held_of encoded pair_of
+returns-in-View c = let p = c.before.before in rw (p.in-View.is, ← p.view_of.ensures) p.put_view.ensures

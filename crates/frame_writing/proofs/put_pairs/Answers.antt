@@ -1,0 +1,40 @@
+-- One pair after the other.
+use mathlib.Core.Path.{ap}
+use Prim.Native.Nat.{◌-◌, ◌≤◌}
+use Rattle.msgpack_values.specs.Pieces.{joined}
+use Rattle.frames.specs.Held.{encoded}
+use Rattle.frames.specs.Writing.{pairs, flat}
+use Rattle.frame_items.specs.Content.{held_of}
+use Rattle.frame_judging.specs.Parts.{items_between, pair_of, pair_bytes}
+use Rattle.frame_judging.proofs.Runs.{run, no_run, pair-first}
+use Rattle.frame_writing.proofs.Turns.{Left, all_left, turn_on, turned, long, first-room}
+use borrow.Author.Rules.{rules}
+use native.Mathlib.Omega.{arith}
+use Rattle.frame_writing.proofs.put_pairs.Goals as goal
+
+pub put_pair-a-requires : goal.put_pair-a-requires
+put_pair-a-requires c κs =
+    let k = c.before in
+    let l = k.loop-i in
+    let a = k.args in
+    first-room (pair_of k.known_key-known.result.key (encoded (held_of a.bytes.now k.known_key-known.result.content))) _ l.a (pair-first a.bytes.now k.known_key-known.result (run a.frame a.bytes.now l.i a.to k.known_key-known.ensures k.loop-i-test.true (omega arith))) l.invariant.1.room
+
+pub loop-i-preserved : goal.loop-i-preserved
+loop-i-preserved c =
+    let k = c.before.before.before.before in
+    let l = k.loop-i in
+    let a = k.args in
+    (omega arith, turn_on l.invariant.1 (pair_of k.known_key-known.result.key (encoded (held_of a.bytes.now k.known_key-known.result.content))) (pair-first a.bytes.now k.known_key-known.result (run a.frame a.bytes.now l.i a.to k.known_key-known.ensures k.loop-i-test.true (omega arith))) c.put_pair-a.ensures)
+
+pub returns : goal.returns
+unfolding pair_bytes pairs flat joined
+returns c =
+    let l = c.loop-i in
+    let a = c.args in
+    turned l.invariant.1 (ap pair_bytes (no_run a.frame a.bytes.now l.i a.to (omega arith) (omega arith)))
+
+pub loop-i-init : goal.loop-i-init
+loop-i-init c = (omega arith, all_left _ _ _ c.requires.1)
+
+pub shape_of-out : goal.shape_of-out
+shape_of-out c = long c.loop-i.invariant.1

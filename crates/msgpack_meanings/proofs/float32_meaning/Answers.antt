@@ -1,0 +1,18 @@
+-- The number of the float's bytes, as its bits.
+use native.Mathlib.Omega.{arith}
+use Prim.Native.Nat.{◌^◌, ◌<◌}
+use Rattle.msgpack_meanings.specs.Meaning.{of_float32}
+use borrow.Author.Rules.{rules}
+use Rattle.msgpack_meanings.proofs.float32_meaning.Goals as goal
+
+pub overflow_cast-n : goal.overflow_cast-n
+unfolding of_float32
+overflow_cast-n c = let n = c.n-1.given in let b : n.0.0 < 2 ^ 32 = rw n.1 at c.number_at.ensures.1 in omega arith
+
+pub returns-in-Is : goal.returns-in-Is
+unfolding of_float32
+returns-in-Is c = rw (← c.number_at.ensures.0, c.in-Is.is) c.float32.ensures
+
+pub returns-in-Missing : goal.returns-in-Missing
+unfolding of_float32
+returns-in-Missing c = rw (← c.number_at.ensures.0, c.in-Missing.is)

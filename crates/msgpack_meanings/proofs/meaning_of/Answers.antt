@@ -1,0 +1,35 @@
+-- The meaning by the first byte's form.
+use native.Mathlib.Omega.{arith}
+use mathlib.Core.Path.{sym, ◌∙◌}
+use Rattle.msgpack_meanings.specs.Meaning.{meaning}
+use Rattle.msgpack_meanings.proofs.Whole.{whole-within, scalar_whole}
+use borrow.Author.Rules.{rules}
+use Rattle.msgpack_meanings.proofs.meaning_of.Goals as goal
+
+pub scalar_meaning-requires : goal.scalar_meaning-requires
+scalar_meaning-requires c κs =
+    let d = c.before.before.before in
+    let p = d.requires in
+    let f = c.kind-1.given in
+    let b = d.type_inv.s 0 in
+    (scalar_whole 16 _ _ f.0.0 _ _ (omega arith) p (sym f.1 ∙ d.form_of.ensures), (whole-within 16 _ _ p).1)
+
+pub bounds-s-0 : goal.bounds-s-0
+unfolding meaning
+bounds-s-0 c = let k = whole-within 16 _ _ c.requires in omega arith
+
+pub returns-in-Unused : goal.returns-in-Unused
+unfolding meaning
+returns-in-Unused c = rw (← c.form_of.ensures, c.in-Unused.is)
+
+pub returns-in-Scalar : goal.returns-in-Scalar
+unfolding meaning
+returns-in-Scalar c = rw (← c.form_of.ensures, c.in-Scalar.is) c.scalar_meaning.ensures
+
+pub returns-in-Array : goal.returns-in-Array
+unfolding meaning
+returns-in-Array c = rw (← c.form_of.ensures, c.in-Array.is)
+
+pub returns-in-Map : goal.returns-in-Map
+unfolding meaning
+returns-in-Map c = rw (← c.form_of.ensures, c.in-Map.is)

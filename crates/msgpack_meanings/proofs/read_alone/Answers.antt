@@ -1,0 +1,36 @@
+-- Whole with its meaning, or 4 with its place.
+use Prim.Native.Nat.{ℕ}
+use mathlib.Core.Path.{◌≡◌, sym, ap, ◌∙◌}
+use Rattle.msgpack_first_bytes.specs.Bytes.{Bytes}
+use Rattle.msgpack_values.specs.Value.{value}
+use Rattle.msgpack_values.specs.Spoiled.{place_of, spoiled_at}
+use Rattle.msgpack_values.specs.declared.OptionalNumber.{OptionalNumber}
+use Rattle.msgpack_values.specs.declared.Read.TheVariants.{Broken}
+use Rattle.msgpack_meanings.specs.declared.Alone.{Alone}
+use Rattle.msgpack_meanings.specs.declared.Meaning.TheVariants.{Absent}
+use Rattle.msgpack_meanings.specs.Meaning.{alone_depth, alone, alone_by}
+use Rattle.msgpack_meanings.proofs.Whole.{shift_none}
+use borrow.Author.Rules.{rules}
+use Rattle.msgpack_meanings.proofs.read_alone.Goals.{After-read_value-read}
+use Rattle.msgpack_meanings.proofs.read_alone.Goals as goal
+
+read-front : (c : After-read_value-read) → value alone_depth c.args.s.now ≡ c.read_value-read.result
+read-front c = sym (c.read_value-read.ensures ∙ shift_none (value alone_depth c.args.s.now))
+
+broken : (s : Bytes) {p : ℕ} {x : OptionalNumber} → value alone_depth s ≡ Broken p → x ≡ spoiled_at alone_depth 0 s
+    → ◌≡◌ {A = Alone} (record { number = 4; length = 0; meaning = Absent; place = x }) (alone s)
+unfolding alone alone_by
+broken s {p} {x} e q = rw (e, q)
+
+pub meaning_of-requires : goal.meaning_of-requires
+unfolding alone alone_by spoiled_at
+meaning_of-requires c = read-front c.before.before.before ∙ c.in-Whole.is
+
+pub returns-in-Whole : goal.returns-in-Whole
+unfolding alone alone_by spoiled_at
+returns-in-Whole c = rw (read-front c.before.before.before.before ∙ c.in-Whole.is, ← c.meaning_of.ensures)
+
+pub returns-in-Broken : goal.returns-in-Broken
+unfolding alone alone_by spoiled_at
+returns-in-Broken c = broken c.args.s.now (read-front c.before.before.before ∙ c.in-Broken.is)
+    (c.place_of.ensures ∙ ap place_of c.read_value-read.ensures)

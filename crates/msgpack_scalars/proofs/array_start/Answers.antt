@@ -1,0 +1,6 @@
+-- The start of an array.
+use borrow.Author.Rules.{rules}
+use Rattle.msgpack_scalars.proofs.array_start.Goals as goal
+
+pub returns-in-Array : goal.returns-in-Array
+returns-in-Array c = rw c.in-Array.is

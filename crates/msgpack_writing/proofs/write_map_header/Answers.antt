@@ -1,0 +1,8 @@
+-- `write_map_header` writes the form that its head is.
+use borrow.Author.Rules.{rules}
+use Rattle.msgpack_writing.specs.Forms.{map_header}
+use Rattle.msgpack_writing.proofs.write_map_header.Goals as goal
+
+pub returns : goal.returns
+unfolding map_header
+returns c = rw c.count_head.ensures at c.write_head.ensures

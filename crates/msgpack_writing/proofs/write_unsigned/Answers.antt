@@ -1,0 +1,6 @@
+-- `write_unsigned` writes the form that its head is.
+use borrow.Author.Rules.{rules}
+use Rattle.msgpack_writing.proofs.write_unsigned.Goals as goal
+
+pub returns : goal.returns
+returns c = rw c.unsigned_head.ensures at c.write_head.ensures

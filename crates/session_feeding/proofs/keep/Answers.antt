@@ -1,0 +1,34 @@
+-- Nothing, what is missing, or all of the piece.
+use Rattle.std.proofs.Common.{sym, refl, ap, ◌∙◌, arith, length-take-le, rules, eq-eqb, ne_eqb}
+use Rattle.msgpack_first_bytes.specs.Bytes.{Bytes}
+use Rattle.msgpack_writing.specs.Put.{put}
+use Rattle.msgpack_writing.proofs.Put.{nothing}
+use Rattle.sessions.specs.Session.{kept}
+use Rattle.session_feeding.proofs.Steps.{take_least}
+use Rattle.session_feeding.proofs.keep.Goals as goal
+
+pub returns-then-held-eq0 : goal.returns-then-held-eq0
+unfolding kept
+returns-then-held-eq0 c =
+    let i = c.before in
+    rw (i.if-settled.true, eq-eqb _ 0 c.if-held-eq0.true) (nothing i.args.carry.now _ _ refl).1
+
+pub slice_bounds-write_bytes-end : goal.slice_bounds-write_bytes-end
+slice_bounds-write_bytes-end c =
+    let l = c.before.before in
+    let e = l.least-n.ensures in
+    sym (length-take-le _ l.args.piece.now (omega arith))
+
+pub returns-then-settled : goal.returns-then-settled
+unfolding kept
+returns-then-settled c =
+    let w = c.before.before in
+    let l = w.before.before.before in
+    let i = l.before.before in
+    let a = i.args in
+    rw (i.if-settled.true, ne_eqb _ 0 i.if-held-eq0.false, ← l.above.ensures)
+    (w.write_bytes.ensures.1 ∙ ap (λ (x : Bytes). put a.held x a.carry.now) (take_least _ _ l.least-n.ensures))
+
+pub returns : goal.returns
+unfolding kept
+returns c = let w = c.before.before in rw w.if-settled.false w.write_bytes-2.ensures.1

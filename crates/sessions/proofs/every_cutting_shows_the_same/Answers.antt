@@ -1,0 +1,6 @@
+-- As `Runs` has it.
+use Rattle.sessions.proofs.Runs.{every}
+use Rattle.sessions.proofs.every_cutting_shows_the_same.Goals as goal
+
+pub returns : goal.returns
+returns c = every

@@ -1,0 +1,24 @@
+-- What was copied, with what stands around it, is the array; what is read stands before it.
+use mathlib.Core.Path.{◌≡◌, refl, ap, ◌∙◌}
+use Prim.Native.Nat.{◌-◌, ◌≤◌}
+use native.Mathlib.Omega.{arith}
+use lib.ListN.{length, drop, length-set}
+use lib.Seq.{paste, paste-zero}
+use Rattle.update_altering.proofs.Strings.{up_turn}
+use Rattle.update_altering.proofs.copy_up.Goals as goal
+
+pub loop-i-preserved : goal.loop-i-preserved (λ s₀ from to n i₀ s i. n - i)
+loop-i-preserved c =
+    let l = c.before.before in
+    let a = l.args in
+    (omega arith, (simp length-set (omega arith), up_turn a.s.now l.loop-i.s a.from a.to l.loop-i.i l.loop-i.invariant.1.1 (omega arith) (omega arith)))
+
+pub returns : goal.returns (λ s₀ from to n i₀ s i. n - i)
+returns c =
+    let l = c.before in
+    let a = l.args in
+    let e : l.loop-i.i ≡ a.n = omega arith in
+    l.loop-i.invariant.1.1 ∙ ap (paste a.s.now a.to (drop a.from a.s.now)) e
+
+pub loop-i-init : goal.loop-i-init
+loop-i-init c = let a = c.args in (omega arith, (refl, paste-zero a.s.now a.to (drop a.from a.s.now)))

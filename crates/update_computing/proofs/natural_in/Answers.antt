@@ -1,0 +1,25 @@
+-- By the source.
+use mathlib.Core.Path.{sym, ap, ◌∙◌}
+use native.Mathlib.Omega.{arith}
+use Rattle.msgpack_first_bytes.specs.Bytes.{Bytes}
+use Rattle.tuples.specs.Decoding.{at_least}
+use Rattle.update_parts.specs.Part.{natural_by}
+use Rattle.update_parts.specs.declared.Natural.{Natural}
+use Rattle.update_places.proofs.Runs.{from-tuple, from_list, from-work}
+use borrow.Author.Rules.{rules}
+use Rattle.update_computing.proofs.natural_in.Goals as goal
+
+abbrev read : Bytes → Natural
+read s = natural_by s (at_least 0 s)
+
+pub returns-then-at-lt-IN_LIST : goal.returns-then-at-lt-IN_LIST
+returns-then-at-lt-IN_LIST c = let a = c.args in
+    c.at_least.ensures ∙ ap read (c.part_of.ensures ∙ sym (from-tuple a.tuple.now a.list.now a.work.now a.at a.size (omega arith)))
+
+pub returns-then-at-lt-IN_WORK : goal.returns-then-at-lt-IN_WORK
+returns-then-at-lt-IN_WORK c = let a = c.args in
+    c.at_least-then-at-lt-IN_WORK.ensures ∙ ap read (c.part_of-then-at-lt-IN_WORK.ensures ∙ sym (from_list a.tuple.now a.list.now a.work.now a.at a.size (omega arith) (omega arith)))
+
+pub returns : goal.returns
+returns c = let a = c.args in
+    c.at_least-2.ensures ∙ ap read (c.part_of-2.ensures ∙ sym (from-work a.tuple.now a.list.now a.work.now a.at a.size (omega arith)))

@@ -1,0 +1,36 @@
+use mathlib.Core.Path.{sym, ap, ◌∙◌}
+use native.Mathlib.Omega.{arith}
+use borrow.Author.Rules.{rules}
+use Rattle.tuples.specs.Call.{delivered}
+use Rattle.update_delivering.proofs.Delivered.{too_short_lem, all-written, long-delivered, undo-limited, undo-refused}
+use Rattle.update_delivering.proofs.deliver_undo.Goals as goal
+
+pub returns-then-length-eq0 : goal.returns-then-length-eq0
+returns-then-length-eq0 c =
+    let o = c.before.before.before.before.before.before.before in
+    let u = c.undo_length-length in
+    (long-delivered o.args.out.now (undo-refused o.requires u.result u.ensures (omega arith)), omega arith)
+
+pub returns-then-out-length : goal.returns-then-out-length
+returns-then-out-length c =
+    let m = c.before.before in
+    let o = m.before.before.before.before.before.before in
+    let L = undo-limited o.requires m.undo_length-length.result m.undo_length-length.ensures (λ e. omega arith) in
+    (too_short_lem _ o.args.out.now (omega (arith, L.long)) ∙ ap (λ x. delivered x o.args.out.now) (sym L.is), omega arith)
+
+pub write_undo-requires : goal.write_undo-requires
+write_undo-requires c κs =
+    let m = c.before.before.before in
+    let o = m.before.before.before.before.before.before in
+    let L = undo-limited o.requires m.undo_length-length.result m.undo_length-length.ensures (λ e. omega arith) in
+    (o.requires.entries L.few, omega (arith, L.long))
+
+pub returns : goal.returns
+returns c =
+    let m = c.before.before.before.before.before.before in
+    let o = m.before.before.before.before.before.before in
+    let L = undo-limited o.requires m.undo_length-length.result m.undo_length-length.ensures (λ e. omega arith) in
+    all-written _ o.args.out.now L.long (omega (arith, L.long)) c.write_undo.ensures ∙ ap (λ x. delivered x o.args.out.now) (sym L.is)
+
+pub undo_length-length-requires : goal.undo_length-length-requires
+undo_length-length-requires c = let p = c.requires in p.short

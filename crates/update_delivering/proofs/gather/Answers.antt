@@ -1,0 +1,45 @@
+-- Three writes in a row.
+use mathlib.Core.Path.{sym}
+use lib.Seq.{length-take-le}
+use borrow.Author.Rules.{rules}
+use Rattle.msgpack_writing.proofs.Put.{written}
+use Rattle.update_delivering.proofs.Sides.{rear_side, gathers_front, gathers_middle, gathers_rear, gathered_all}
+use Rattle.update_delivering.proofs.gather.Goals as goal
+
+pub gather_side-a-requires : goal.gather_side-a-requires
+gather_side-a-requires c κs =
+    let r = c.before.before in
+    let p = r.requires in
+    let e = r.rear_from-last.ensures in
+    (gathers_front p.0 p.1 r.rear_from-last.result e.0 e.1 e.2, p.1.front)
+
+pub gather_each-b-requires : goal.gather_each-b-requires
+gather_each-b-requires c κs =
+    let f = c.before.before.before.before in
+    let r = f.before.before.before in
+    let p = r.requires in
+    let e = r.rear_from-last.ensures in
+    gathers_middle p.0 p.1 r.rear_from-last.result e.0 e.1 e.2 f.gather_side-a.ensures
+
+pub gather_side-requires : goal.gather_side-requires
+gather_side-requires c κs =
+    let g = c.before.before.before.before in
+    let f = g.before.before.before.before.before in
+    let r = f.before.before.before in
+    let p = r.requires in
+    let e = r.rear_from-last.ensures in (
+      gathers_rear p.0 p.1 r.rear_from-last.result e.0 e.1 e.2 f.gather_side-a.ensures g.gather_each-b.ensures,
+      rear_side p.0 p.1 r.rear_from-last.result e.0 e.1 e.2,
+    )
+
+pub returns : goal.returns
+returns c =
+    let g = c.before.before.before.before.before.before.before in
+    let f = g.before.before.before.before.before in
+    let r = f.before.before.before in
+    let p = r.requires in
+    let e = r.rear_from-last.ensures in
+    written (gathered_all p.0 p.1 r.rear_from-last.result e.0 e.1 e.2 f.gather_side-a.ensures g.gather_each-b.ensures c.gather_side.ensures)
+
+pub slice_bounds-gather_side-end : goal.slice_bounds-gather_side-end
+slice_bounds-gather_side-end c = let o = c.before.before.before.before.before.before.before in sym (length-take-le o.args.low o.args.entries.now o.requires.1.low_fits)

@@ -1,0 +1,39 @@
+-- The fields of the entries before i are written.
+use Prim.Native.Nat.{◌-◌, ◌≤◌}
+use native.Mathlib.Omega.{arith}
+use borrow.Author.Rules.{rules}
+use lib.ListN.{length, drop}
+use Rattle.msgpack_writing.proofs.Put.{Wrote, written}
+use Rattle.update_delivering.proofs.Runs.{reach-le, Front, further, gathered, begun, ended}
+use Rattle.update_delivering.proofs.gather_each.Goals as goal
+
+pub overflow_sub-run : goal.overflow_sub-run
+overflow_sub-run c =
+    let l = c.before.before.before.before.before in
+    omega (arith, reach-le c.start_of-from.result (drop l.loop-i.i l.args.entries.now), c.run_from-run.ensures.0)
+
+pub loop-i-smaller : goal.loop-i-smaller
+loop-i-smaller c =
+    let r = c.before.before.before.before.before in
+    let l = r.before.before.before.before in
+    let p = l.requires in
+    let f = further p l.loop-i.i (omega arith) _ _ _ r.start_of-from.ensures.0 r.run_from-run.ensures.0 r.run_from-run.ensures.1 in
+    omega (arith, f.0, f.1)
+
+pub loop-i-preserved : goal.loop-i-preserved
+loop-i-preserved c =
+    let r = c.before.before.before.before.before in
+    let l = r.before.before.before.before in
+    let p = l.requires in (
+      (further p l.loop-i.i (omega arith) _ _ _ r.start_of-from.ensures.0 r.run_from-run.ensures.0 r.run_from-run.ensures.1).1,
+      gathered p l.loop-i.i (omega arith) _ _ _ r.start_of-from.ensures.0 r.run_from-run.ensures.0 r.run_from-run.ensures.1 l.loop-i.invariant.1 c.copy_from-to.ensures,
+    )
+
+pub returns : goal.returns
+returns c = let l = c.before in written (ended l.requires l.loop-i.i (omega arith) l.loop-i.invariant.1)
+
+pub loop-i-init : goal.loop-i-init
+loop-i-init c = (omega arith, begun c.requires)
+
+pub run_from-run-requires : goal.run_from-run-requires
+run_from-run-requires c = (c.loop-i.invariant.0, c.requires.few, omega (arith, c.start_of-from.ensures.1))

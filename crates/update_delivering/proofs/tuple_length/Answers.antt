@@ -1,0 +1,7 @@
+use native.Mathlib.Omega.{arith}
+use borrow.Author.Rules.{rules}
+use Rattle.msgpack_writing.proofs.Lengths.{array_long}
+use Rattle.update_delivering.proofs.tuple_length.Goals as goal
+
+pub overflow_add-result : goal.overflow_add-result
+overflow_add-result c = omega (arith, array_long c.args.stage.fields)

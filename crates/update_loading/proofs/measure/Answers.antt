@@ -1,0 +1,39 @@
+-- The invariant: the values before `i` were whole, and the table has their places.
+use mathlib.Core.Path.{◌≡◌, refl, sym, ◌∙◌}
+use mathlib.Core.Logic.{⊎_elim}
+use Prim.Native.Nat.{◌-◌, ◌≤◌}
+use native.Mathlib.Omega.{arith}
+use lib.ListN.{length}
+use Rattle.msgpack_values.specs.Value.{value}
+use Rattle.msgpack_values.proofs.Local.{value_good}
+use Rattle.tuples.specs.Limits.{field_depth}
+use Rattle.update_loading.proofs.Measures.{Sofar, begin, place_after, next_turn, next-broken, all_whole}
+use borrow.Author.Rules.{rules}
+use Rattle.update_loading.proofs.measure.Goals as goal
+
+pub loop-i-init : goal.loop-i-init
+loop-i-init c = let a = c.args in (omega arith, refl, begin (value field_depth) a.tuple.now a.from a.n a.table.now)
+
+pub loop-i-preserved : goal.loop-i-preserved
+loop-i-preserved c =
+    let s = c.before in
+    let l = s.loop-i in
+    let f = l.invariant in
+    ⊎_elim
+    (λ w. next_turn (value_good field_depth) f.2 (omega arith) (omega arith) f.1 (s.short_end-quick.ensures w.0.taken) w.1.ensures w.2 w.3)
+    (λ w. next_turn (value_good field_depth) f.2 (omega arith) (omega arith) f.1 (sym w.3.given.1 ∙ w.1.ensures) w.5.ensures w.6 w.7)
+    c.if-quick-gt0.branch
+
+pub overflow_sub-quick : goal.overflow_sub-quick
+overflow_sub-quick c = let e = place_after (value_good field_depth) c.loop-i.invariant.2 (omega arith) (c.short_end-quick.ensures c.if-quick-gt0.true) in omega arith
+
+pub returns-in-Broken : goal.returns-in-Broken
+returns-in-Broken c = let r = c.before.before.before in let l = r.before.before.before.before in next-broken (value_good field_depth) l.loop-i.invariant.2
+    (omega arith) (omega arith) (sym c.in-Broken.is ∙ r.read_value.ensures)
+
+pub overflow_sub-end : goal.overflow_sub-end
+overflow_sub-end c = let r = c.before.before.before in let l = r.before.before.before.before in
+    let e = place_after (value_good field_depth) l.loop-i.invariant.2 (omega arith) (sym c.in-Whole.is ∙ r.read_value.ensures) in omega arith
+
+pub returns : goal.returns
+returns c = let l = c.before in all_whole l.loop-i.invariant.2 (omega arith) (omega arith)

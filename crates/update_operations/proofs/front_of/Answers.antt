@@ -1,0 +1,23 @@
+-- By the tests, and by the count that was read.
+use borrow.Author.Tests.{le-leb, lt-leb}
+use Rattle.update_operations.proofs.Listing.{base-refused, long-refused, fronted}
+use borrow.Author.Rules.{rules}
+use Rattle.update_operations.proofs.front_of.Goals as goal
+
+pub returns-then-base-gt1 : goal.returns-then-base-gt1
+returns-then-base-gt1 c = let a = c.args in base-refused a.base a.list.now c.if-base-gt1.true
+
+pub returns-then-list-gt-MAX_LIST : goal.returns-then-list-gt-MAX_LIST
+returns-then-list-gt-MAX_LIST c = let a = c.args in long-refused a.base a.list.now c.if-list-gt-MAX_LIST.true
+
+pub returns-in_default : goal.returns-in_default
+returns-in_default c = let n = c.before.before in let a = n.args in
+    rw (← n.count_at.ensures, c.in_default.is) at (fronted a.base a.list.now n.if-base-gt1.false n.if-list-gt-MAX_LIST.false)
+
+pub returns-then-count-gt-MAX_OPERATIONS : goal.returns-then-count-gt-MAX_OPERATIONS
+returns-then-count-gt-MAX_OPERATIONS c = let n = c.before.before.before.before in let a = n.args in
+    rw (← n.count_at.ensures, c.in-Is.is, lt-leb _ _ c.if-count-gt-MAX_OPERATIONS.true) at (fronted a.base a.list.now n.if-base-gt1.false n.if-list-gt-MAX_LIST.false)
+
+pub returns : goal.returns
+returns c = let n = c.before.before.before.before in let a = n.args in
+    rw (← n.count_at.ensures, c.in-Is.is, le-leb _ _ c.if-count-gt-MAX_OPERATIONS.false) at (fronted a.base a.list.now n.if-base-gt1.false n.if-list-gt-MAX_LIST.false)

@@ -1,0 +1,8 @@
+use native.Mathlib.Omega.{arith}
+use borrow.Author.Rules.{rules}
+use Rattle.update_places.specs.Place.{place_of}
+use Rattle.update_places.proofs.place_of.Goals as goal
+
+pub returns : goal.returns
+unfolding place_of
+returns c = omega arith

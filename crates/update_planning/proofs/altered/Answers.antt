@@ -1,0 +1,44 @@
+-- One law for each way back.
+use mathlib.Core.Path.{refl, ap, ◌∙◌}
+use native.Mathlib.Omega.{arith}
+use borrow.Author.Rules.{rules}
+use Prim.Native.Nat.{ℕ, ◌-◌}
+use Rattle.update_places.specs.Place.{in_work}
+use Rattle.update_planning.specs.declared.Planned.TheVariants.{Put}
+use Rattle.update_planning.proofs.Answers.{round, altered-further, altered_past, altered_as}
+use Rattle.update_planning.proofs.altered.Goals as goal
+
+pub returns-then-n-f : goal.returns-then-n-f
+returns-then-n-f c =
+    let a = c.args in
+    altered_past a.tuple.now a.list.now a.work.now a.used a.old a.n a.end a.f a.change (omega arith)
+
+pub overflow_sub-to : goal.overflow_sub-to
+overflow_sub-to c =
+    let m = c.before.before.before.before.before in
+    let a = m.args in
+    let h = altered-further a.tuple.now a.list.now a.work.now a.used a.old a.end a.change m.alter.ensures.0 c.in-Is.is in
+    omega (arith, h)
+
+pub returns-in-Refused : goal.returns-in-Refused
+returns-in-Refused c =
+    let m = c.before.before.before.before.before in
+    let a = m.args in
+    altered_as a.tuple.now a.list.now a.work.now a.used a.old a.n a.end a.f a.change (omega arith) m.alter.ensures
+    c.in-Refused.is refl
+
+pub returns-in-Full : goal.returns-in-Full
+returns-in-Full c =
+    let m = c.before.before.before.before in
+    let a = m.args in
+    altered_as a.tuple.now a.list.now a.work.now a.used a.old a.n a.end a.f a.change (omega arith) m.alter.ensures
+    c.in-Full.is refl
+
+pub returns-in-Is : goal.returns-in-Is
+returns-in-Is c =
+    let k = c.before.before in
+    let m = k.before.before.before.before in
+    let a = m.args in
+    let to = k.in-Is.to in
+    altered_as a.tuple.now a.list.now a.work.now a.used a.old a.n a.end a.f a.change (omega arith) m.alter.ensures
+    k.in-Is.is (ap (λ (q : ℕ). Put a.f q to) (c.place_of.ensures ∙ round in_work a.used (to - a.used)))

@@ -1,0 +1,19 @@
+use mathlib.Core.Path.{◌∙◌, ap, sym}
+use native.Mathlib.Omega.{arith}
+use borrow.Author.Rules.{rules}
+use Rattle.update_running.specs.Carrying.{finishes_by}
+use Rattle.update_running.proofs.Entries.{not_finished, is_finished}
+use Rattle.update_running.proofs.finished.Goals as goal
+
+pub returns-in-Going : goal.returns-in-Going
+returns-in-Going c =
+    let a = c.args in
+    ap finishes_by (sym c.in-Going.is) ∙ is_finished a.course a.at a.list.now (omega arith)
+
+pub returns-in-Stopped : goal.returns-in-Stopped
+returns-in-Stopped c =
+    let a = c.args in
+    ap finishes_by (sym c.in-Stopped.is) ∙ is_finished a.course a.at a.list.now (omega arith)
+
+pub returns-then-at-list : goal.returns-then-at-list
+returns-then-at-list c = let a = c.args in not_finished a.course a.at a.list.now (omega arith)

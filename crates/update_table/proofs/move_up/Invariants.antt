@@ -1,0 +1,15 @@
+-- The entries from `i` on are moved: `table` is the table at first with those of them laid in.
+use mathlib.Core.Path.{◌≡◌, refl, ◌∙◌}
+use Prim.Native.Nat.{◌+◌, ◌-◌, ◌≤◌}
+use native.Mathlib.Omega.{arith}
+use lib.ListN.{length, drop, length-set}
+use lib.Seq.{paste}
+use native.Mathlib.Nat.{add-zero, sub-zero}
+use Rattle.update_table.proofs.Turns.{up_begin, up_turn}
+use Rattle.update_table.proofs.move_up.Given as goal
+
+abbrev pub invariant-loop-i : goal.invariant-loop-i
+invariant-loop-i l = (l.i ≤ l.n) × (length l.table ≡ length l.initial.table) × (l.table ≡ paste l.initial.table (l.to + l.i) (drop (l.from + l.i) l.initial.table) (l.n - l.i))
+
+abbrev pub decreases-loop-i : goal.decreases-loop-i
+decreases-loop-i l = l.i

@@ -1,0 +1,23 @@
+-- Short arrays first.
+use Rattle.updates.proofs.Calls.{told-press}
+use borrow.Author.Rules.{rules}
+use Rattle.updates.proofs.press_more.Goals as goal
+
+pub returns-in-Refused : goal.returns-in-Refused
+returns-in-Refused c =
+    let u = c.before.before.before.before.before.before.before.before.before in
+    let s = u.before.before.before.before.before.before.before.before.before in
+    let a = s.args in
+    rw c.in-Refused.is at (told-press a.tuple.now a.list.now a.base a.front s.requires a.out.now _ a.back.now _ u.press_with.result _ _ u.press_with.ensures)
+
+pub returns-in-Written : goal.returns-in-Written
+returns-in-Written c =
+    let u = c.before.before.before.before.before.before.before.before.before in
+    let s = u.before.before.before.before.before.before.before.before.before in
+    let a = s.args in
+    rw c.in-Written.is at (told-press a.tuple.now a.list.now a.base a.front s.requires a.out.now _ a.back.now _ u.press_with.result _ _ u.press_with.ensures)
+
+pub returns-in-NoRoom : goal.returns-in-NoRoom
+returns-in-NoRoom c =
+    let n = rw c.in-NoRoom.is at c.press_with.ensures in
+    rw (n.0, n.1) at c.press_long.ensures

@@ -1,0 +1,14 @@
+-- Short arrays first.
+use borrow.Author.Rules.{rules}
+use Rattle.updates.proofs.undone.Goals as goal
+
+pub returns-in-NoRoom : goal.returns-in-NoRoom
+returns-in-NoRoom c =
+    let n = rw c.in-NoRoom.is at c.undo_in.ensures in
+    rw n at c.undo_more-in-NoRoom.ensures
+
+pub returns-in-Refused : goal.returns-in-Refused
+returns-in-Refused c = rw c.in-Refused.is at c.undo_in.ensures
+
+pub returns-in-Written : goal.returns-in-Written
+returns-in-Written c = rw c.in-Written.is at c.undo_in.ensures

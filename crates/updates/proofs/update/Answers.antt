@@ -1,0 +1,28 @@
+-- The answer with its place.
+use mathlib.Core.Path.{◌≡◌, ap, ◌∙◌}
+use Rattle.tuples.specs.Call.{update, update_call}
+use Rattle.tuples.specs.declared.Answer.{Answer}
+use Rattle.update_answers.specs.Seen.{seen}
+use Rattle.updates.proofs.Calls.{told-few, answers}
+use borrow.Author.Rules.{rules}
+use Rattle.updates.proofs.update.Goals as goal
+
+pub updated-requires : goal.updated-requires
+updated-requires c κs = search rules
+
+pub answer_of-requires : goal.answer_of-requires
+answer_of-requires c κs =
+    let v = c.before.before in
+    let a = c.args in
+    told-few v.updated.result (update a.tuple.now a.list.now a.index-base) a.out.now v.updated.new.1.1.1.0 v.updated.ensures
+
+pub shape_of-out : goal.shape_of-out
+shape_of-out c = search rules
+
+pub returns : goal.returns
+unfolding update_call
+returns c =
+    let v = c.before.before.before in
+    let a = c.args in
+    ap (λ (r : Answer). seen r v.updated.new.1.1.1.0) c.answer_of.ensures
+    ∙ answers a.tuple.now a.list.now v.updated.result (update a.tuple.now a.list.now a.index-base) a.out.now v.updated.new.1.1.1.0 v.updated.ensures

@@ -1,0 +1,22 @@
+-- `updates::update_long` meets its contract. The invariant: what is left to do on the tuple that stands in the first array is what was to be
+-- done, and nothing is written.
+use mathlib.Core.Path.{◌≡◌, refl, sym, ap, ◌∙◌, subst}
+use Prim.Native.Nat.{◌-◌, ◌≤◌}
+use native.Mathlib.Omega.{arith}
+use borrow.Author.Rules.{rules}
+use lib.ListN.{length, take}
+use lib.Seq.{length-take-le}
+use Rattle.tuples.specs.Tuple.{fields_of}
+use Rattle.tuples.specs.Call.{update}
+use Rattle.update_running.specs.Carrying.{comes_to, rest_of}
+use Rattle.updates.specs.Telling.{came_of, Told}
+use Rattle.updates.proofs.Calls.{long-tuple, first_turn, told_as, no_room, rebased, rebased_room, rebased_on}
+use Rattle.updates.proofs.update_long.Reads as reads
+use Rattle.updates.proofs.update_long.Lts as lts
+use Rattle.updates.proofs.update_long.Given as goal
+
+abbrev pub invariant-loop-refusal : goal.invariant-loop-refusal
+invariant-loop-refusal l = (comes_to l.i (fields_of (take l.length l.one)) (rest_of l.base l.front.count l.i l.at l.list) ≡ came_of l.tuple l.list l.base) × ((l.out ≡ l.initial.out) × ((length l.out ≡ length l.initial.out) × ((l.length ≤ 16384) × ((length l.one ≡ 16384) × ((length l.other ≡ 16384) × ((length l.table ≡ 192) × (length l.work ≡ 16384)))))))
+
+abbrev pub decreases-loop-refusal : goal.decreases-loop-refusal
+decreases-loop-refusal l = l.front.count - l.i
