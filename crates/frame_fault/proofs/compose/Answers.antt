@@ -66,7 +66,7 @@ returns c =
     rw (sym v.2) (clean_turn _ _ _ v.3 v.1 (omega arith) (omega arith) w.write_counted.ensures)
 
 pub write_fault-requires : goal.write_fault-requires
-write_fault-requires c κs =
+write_fault-requires c =
     let r = c.before.before.before.before.before in
     let l = r.before.before.before in
     let s = l.args.input.now in

@@ -10,18 +10,18 @@ use Rattle.frame_listing.proofs.first_line.Goals as goal
 
 pub write_last-length-requires-then-answer-eq1 : goal.write_last-length-requires-then-answer-eq1
 unfolding last_line
-write_last-length-requires-then-answer-eq1 c κs = let s = c.before.before.before.before.before.before.before.before in last-short (text "incomplete") 4 _ _ (omega (arith, s.requires.0)) (omega (arith, s.requires.2))
+write_last-length-requires-then-answer-eq1 c = let s = c.before.before.before.before.before.before.before.before in last-short (text "incomplete") 4 _ _ (omega (arith, s.requires.0)) (omega (arith, s.requires.2))
 
 pub write_last-length-requires-then-answer-ne0 : goal.write_last-length-requires-then-answer-ne0
 unfolding last_line
-write_last-length-requires-then-answer-ne0 c κs =
+write_last-length-requires-then-answer-ne0 c =
     let r = c.before.before.before.before.before.before.before in
     let u = r.read_frame-answer.type-inv.1.1.0.1 in
     let s = r.before.before.before.before in
     last-short (text "refused") 9 _ _ (omega (arith, u)) (omega (arith, s.requires.2))
 
 pub write_frame-length-requires : goal.write_frame-length-requires
-write_frame-length-requires c κs =
+write_frame-length-requires c =
     let r = c.before.before.before.before.before.before in
     let s = r.before.before.before.before in
     let a = r.read_frame-answer.result in

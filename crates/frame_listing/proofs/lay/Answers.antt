@@ -46,7 +46,7 @@ loop-line-preserved c =
     )
 
 pub first_line-next-requires : goal.first_line-next-requires
-first_line-next-requires c κs =
+first_line-next-requires c =
     let l = c.before.before in
     let b = l.requires.0 in
     let i = l.loop-line.invariant in

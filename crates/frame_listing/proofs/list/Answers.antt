@@ -25,7 +25,7 @@ returns-then-out-length c =
 
 pub lay-requires : goal.lay-requires
 unfolding heading
-lay-requires c κs =
+lay-requires c =
     let w = c.before.before.before in
     let j = w.before.before.before in
     let i = j.before.before.before.before in

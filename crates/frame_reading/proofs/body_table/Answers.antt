@@ -9,7 +9,7 @@ use Rattle.frame_reading.proofs.body_table.Goals as goal
 pub returns : goal.returns
 unfolding entries_in
 returns c =
-    let b = c.before.before.before.before in
+    let b = c.before.before.before in
     let a = b.args in
     c.table_at.ensures
     ∙ sym (ap (λ (x : Body). tabled_on (table 0 a.starts.now a.lengths.now) (entries_in a.s.now x)) b.in-At.is)

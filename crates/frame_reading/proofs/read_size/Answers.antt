@@ -7,18 +7,18 @@ use Rattle.frame_reading.proofs.read_size.Goals as goal
 
 pub returns-then-n-eq0 : goal.returns-then-n-eq0
 unfolding size_of
-returns-then-n-eq0 c = let n = c.before.before in rw (number-front _ n.in-Is.is n.unsigned_at.ensures) (size_none _ c.if-n-eq0.true)
+returns-then-n-eq0 c = let n = c.before in rw (number-front _ n.in-Is.is n.unsigned_at.ensures) (size_none _ c.if-n-eq0.true)
 
 pub returns-then-n : goal.returns-then-n
 unfolding size_of
 returns-then-n c =
-    let n = c.before.before.before in
+    let n = c.before.before in
     rw (number-front _ n.in-Is.is n.unsigned_at.ensures) (size_large _ _ c.if-n.true)
 
 pub returns-else-n : goal.returns-else-n
 unfolding size_of
 returns-else-n c =
-    let n = c.before.before.before in
+    let n = c.before.before in
     rw (number-front _ n.in-Is.is n.unsigned_at.ensures) (size_is _ _ c.if-n-eq0.false c.if-n.false)
 
 pub returns-in-Cut : goal.returns-in-Cut

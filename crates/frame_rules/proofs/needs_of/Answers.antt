@@ -8,7 +8,7 @@ use Rattle.frame_rules.proofs.needs_of.Goals as goal
 
 pub returns-in-32768-to-36863 : goal.returns-in-32768-to-36863
 unfolding needs_of needs_for
-returns-in-32768-to-36863 c = rw (error_code c.args.code c.if-code-lt32768.false c.in-32768-to-36863.if-code-lt36864-own.true) c.needing-in-32768-to-36863.ensures
+returns-in-32768-to-36863 c = rw (error_code c.args.code c.in-32768-to-36863.if-code-lt32768-own.false c.in-32768-to-36863.if-code-lt36864-own.true) c.needing-in-32768-to-36863.ensures
 
 pub returns-in_default : goal.returns-in_default
 unfolding needs_of needs_for

@@ -8,8 +8,8 @@ use Rattle.frame_tables.proofs.table_at.Goals as goal
 
 pub returns-in-Is : goal.returns-in-Is
 returns-in-Is c =
-    let k = c.before.before.before.before in
-    let b = k.before.before in
+    let k = c.before.before.before in
+    let b = k.before in
     let a = b.args in
     c.table_of.ensures
     ∙ sym (ap (tabled_on (table 0 a.starts.now a.lengths.now)) (a-map held_depth a.s.now a.at _ _ (sym k.in-Is.is ∙ b.header_at.ensures)))
@@ -18,7 +18,7 @@ pub returns-in-Other : goal.returns-in-Other
 unfolding tabled_on
 returns-in-Other c =
     let o = c.before.before.before in
-    let b = o.before.before in
+    let b = o.before in
     let a = b.args in
     c.no_table.ensures
     ∙ sym (ap (tabled_on (table 0 a.starts.now a.lengths.now)) (no_map held_depth a.s.now a.at (sym o.in-Other.is ∙ b.header_at.ensures)))

@@ -10,7 +10,7 @@ use Rattle.frames.specs.Maps.{Entry, entry, entry_at, entries}
 use Rattle.frame_tables.specs.Tables.{Table, table, laid_all, tabled_on}
 use Rattle.frame_tables.proofs.Entries.{Fits, entry-fits, step-none, step_some}
 use Rattle.frame_tables.proofs.Tables.{table_none, table-next, laid_new, laid_twice, table_eq}
-use Rattle.frame_tables.proofs.table_of.Goals.{In-Entry-2, In-loop-left}
+use Rattle.frame_tables.proofs.table_of.Goals.{In-Entry, In-loop-left}
 use Rattle.frame_tables.proofs.table_of.Goals as goal
 
 -- what is left, with one entry taken from its count
@@ -23,19 +23,19 @@ left_one c =
     rw e at l.invariant
 
 -- the entry that was read
-abbrev read : In-Entry-2 → Entry
+abbrev read : In-Entry → Entry
 read c = entry c.key.given.0.0 c.key.given.0.1.0 c.key.given.0.1.1.0
 
-is_read : (c : In-Entry-2) → entry_at held_depth c.args.s.now c.loop-left.at ≡ some (read c)
+is_read : (c : In-Entry) → entry_at held_depth c.args.s.now c.loop-left.at ≡ some (read c)
 is_read c = step_some _ _ _ _ (sym c.in-Entry.is ∙ c.entry_at.ensures)
 
-fits : (c : In-Entry-2) → Fits c.args.s.now (read c)
+fits : (c : In-Entry) → Fits c.args.s.now (read c)
 fits c = entry-fits held_depth _ _ (read c) (is_read c)
 
 pub returns-in_default : goal.returns-in_default
 returns-in_default c =
     let o = c.before.before.before in
-    let i = o.before.before.before in
+    let i = o.before.before in
     let a = i.args in
     let l = i.loop-left in
     c.no_table.ensures
@@ -45,7 +45,7 @@ returns-in_default c =
 pub loop-left-preserved : goal.loop-left-preserved
 loop-left-preserved c =
     let k = c.before.before.before in
-    let i = k.before.before.before in
+    let i = k.before in
     let a = i.args in
     let l = i.loop-left in
     let t : Table = table l.number l.starts l.lengths in
@@ -67,7 +67,7 @@ pub loop-left-init : goal.loop-left-init
 loop-left-init c = refl
 
 pub offset_bounds-lengths-key : goal.offset_bounds-lengths-key
-offset_bounds-lengths-key c = let f = fits c.before in omega arith
+offset_bounds-lengths-key c = let f = fits c in omega arith
 
 pub bounds-lengths-key : goal.bounds-lengths-key
 bounds-lengths-key c = (fits c.before).low

@@ -11,7 +11,7 @@ use borrow.Author.Rules.{rules}
 use Rattle.frame_writing.proofs.put_frame.Goals as goal
 
 pub put_map-b-requires : goal.put_map-b-requires
-put_map-b-requires c κs =
+put_map-b-requires c =
     let w = c.before.before.before in
     let s = w.before.before.before.before in
     let a = s.args in
@@ -19,7 +19,7 @@ put_map-b-requires c κs =
     (((omega arith, omega arith), s.requires.0.1.0 ∙ ap (λ (xs : List Item). length (pairs xs)) (sym (header-run a.frame a.bytes.now))), first-room (header_form a.frame a.bytes.now) (body_form a.frame a.bytes.now) w.write_tagged-a.result refl t.room)
 
 pub put_map-requires : goal.put_map-requires
-put_map-requires c κs =
+put_map-requires c =
     let q = c.before.before.before in
     let w = q.before.before.before.before in
     let s = w.before.before.before.before in

@@ -7,7 +7,7 @@ use borrow.Author.Rules.{rules}
 use Rattle.frame_writing.proofs.put_map.Goals as goal
 
 pub put_pairs-requires : goal.put_pairs-requires
-put_pairs-requires c κs =
+put_pairs-requires c =
     let w = c.before.before.before in
     let s = w.before.before.before.before in
     let a = s.args in

@@ -8,11 +8,11 @@ use Rattle.frame_writing.proofs.put_pair.Goals as goal
 
 pub put_number-requires : goal.put_number-requires
 unfolding held_of encoded pair_of
-put_number-requires c κs = let t = c.before.before in rw t.in-Number.is at t.requires
+put_number-requires c = let t = c.before in rw t.in-Number.is at t.requires
 
 pub put_view-requires : goal.put_view-requires
 unfolding held_of encoded pair_of
-put_view-requires c κs = let t = c.before.before.before in rw (t.in-View.is, ← c.view_of.ensures) at t.requires
+put_view-requires c = let t = c.before.before in rw (t.in-View.is, ← c.view_of.ensures) at t.requires
 
 pub returns-in-Absent : goal.returns-in-Absent
 unfolding held_of encoded pair_of

@@ -13,7 +13,7 @@ use native.Mathlib.Omega.{arith}
 use Rattle.frame_writing.proofs.put_pairs.Goals as goal
 
 pub put_pair-a-requires : goal.put_pair-a-requires
-put_pair-a-requires c κs =
+put_pair-a-requires c =
     let k = c.before in
     let l = k.loop-i in
     let a = k.args in

@@ -66,7 +66,7 @@ returns-then-out-size c =
     rw c.refused-then-out-size.ensures (call_18 _ (facts t.before.before.before.before.before) (not-false _ t.if-not-sound.false) (not-false _ f.if-not-suited.false) (not-false _ f.if-not-there.false) c.if-size-gt-MAX_SIZE.false c.if-out-size.true)
 
 pub put_frame-length-requires : goal.put_frame-length-requires
-put_frame-length-requires c κs =
+put_frame-length-requires c =
     let l = c.before.before.before.before.before.before.before.before.before.before in
     let b = l.before.before.before.before in
     let out = (asking l).before.before.before.args.out.now in

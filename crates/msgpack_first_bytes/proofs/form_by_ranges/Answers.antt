@@ -51,7 +51,7 @@ returns-in-196-to-198 c = rw c.power_of_two.ensures.0 (agree (λ b. Scalar Bin (
 pub returns-in-199-to-201 : goal.returns-in-199-to-201
 unfolding form_of
 returns-in-199-to-201 c = rw c.power_of_two-in-199-to-201.ensures.0
-    (agree (λ b. Scalar Ext (2 ^ (b - 0xc7)) 1) form_of 0xc7 3 tt c.if-b-lt202.true (omega arith))
+    (agree (λ b. Scalar Ext (2 ^ (b - 0xc7)) 1) form_of 0xc7 3 tt c.in-199-to-201.if-b-lt202-own.true (omega arith))
 
 pub returns-in-204-to-207 : goal.returns-in-204-to-207
 unfolding form_of

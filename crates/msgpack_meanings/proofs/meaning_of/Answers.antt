@@ -7,8 +7,8 @@ use borrow.Author.Rules.{rules}
 use Rattle.msgpack_meanings.proofs.meaning_of.Goals as goal
 
 pub scalar_meaning-requires : goal.scalar_meaning-requires
-scalar_meaning-requires c κs =
-    let d = c.before.before.before in
+scalar_meaning-requires c =
+    let d = c.before in
     let p = d.requires in
     let f = c.kind-1.given in
     let b = d.type_inv.s 0 in

@@ -9,7 +9,7 @@ use borrow.Author.Rules.{rules}
 use Rattle.msgpack_scalars.proofs.header_at.Goals as goal
 
 pub counted_at-requires : goal.counted_at-requires
-counted_at-requires c κs =
+counted_at-requires c =
     let a = c.args in
     let e = c.start_of-start.ensures ∙ ap (start_by a.opening) c.form_of.ensures in
     (omega arith, subst (Few 31) (sym e) (start-few a.opening (get_or a.s.now a.at 0)))

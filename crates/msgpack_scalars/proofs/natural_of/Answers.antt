@@ -15,9 +15,9 @@ pub returns-then-more-eq0 : goal.returns-then-more-eq0
 returns-then-more-eq0 c = unfold natural_of in rw c.if-more-eq0.true (rw (get_or-drop, add-zero))
 
 pub returns-in_default : goal.returns-in_default
-returns-in_default c = let p = c.before.before in let a = p.args in
+returns-in_default c = let p = c.before in let a = p.args in
     absurd (natural_there a.s.now a.at a.more (omega arith) (omega arith) (sym c.in_default.is ∙ p.number_at.ensures.0))
 
 pub returns : goal.returns
-returns c = let p = c.before.before.before in let a = p.args in
+returns c = let p = c.before in let a = p.args in
     natural-more a.s.now a.at a.more _ (omega arith) (sym c.in-Is.is ∙ p.number_at.ensures.0)

@@ -39,7 +39,7 @@ pub returns-then-more-eq0 : goal.returns-then-more-eq0
 returns-then-more-eq0 c = unfold signed_of in rw c.if-more-eq0.true (rw (get_or-drop, add-zero))
 
 pub returns-in_default : goal.returns-in_default
-returns-in_default c = let p = c.before.before in let a = p.args in
+returns-in_default c = let p = c.before in let a = p.args in
     absurd (Laws.natural_there a.s.now a.at a.more (omega arith) (omega arith) (sym c.in_default.is ∙ p.number_at.ensures.0))
 
 pub returns-then-n-half : goal.returns-then-n-half

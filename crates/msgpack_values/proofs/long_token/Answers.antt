@@ -26,7 +26,7 @@ answer c = let k = c.before in let p = k.requires in c.long_scalar.ensures ∙ T
 
 pub returns-then-e-eq1 : goal.returns-then-e-eq1
 returns-then-e-eq1 c =
-    let m = c.before.before.before.before in
+    let m = c.before.before in
     let p = m.requires in
     let e = sym c.in-Whole.is ∙ answer m in
     (e, Tokens.headed _ _ _ _ _ p.0 (omega arith) c.if-e-eq1.true e)
@@ -41,7 +41,7 @@ pub long_scalar-requires : goal.long_scalar-requires
 long_scalar-requires c = requires-it c
 
 pub returns-else-e-eq1 : goal.returns-else-e-eq1
-returns-else-e-eq1 c = sym c.in-Whole.is ∙ answer c.before.before.before.before
+returns-else-e-eq1 c = sym c.in-Whole.is ∙ answer c.before.before
 
 pub returns-in-Broken : goal.returns-in-Broken
-returns-in-Broken c = sym c.in-Broken.is ∙ answer c.before.before.before
+returns-in-Broken c = sym c.in-Broken.is ∙ answer c.before

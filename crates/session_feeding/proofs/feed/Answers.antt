@@ -13,7 +13,7 @@ unfolding feed_of carry_of
 returns-then-session-ne0 c = rw (le-ltb _ _ c.if-carry-lt-CARRY_ROOM.false, ne_eqb _ 0 c.if-session-ne0.true) (c.idle-then-session-ne0.ensures, refl)
 
 pub answered-requires : goal.answered-requires
-answered-requires c κs =
+answered-requires c =
     let g = c.before.before.before in
     let l = g.before.before in
     let a = l.args in

@@ -8,7 +8,7 @@ slice_bounds-size_over-end-2 c = let a = c.args in sym (length-take-le a.held a.
 
 pub overflow_add-stop : goal.overflow_add-stop
 overflow_add-stop c =
-    let z = c.before.before.before in
+    let z = c.before in
     let a = z.args in
     let l = promised_few (take a.held a.carry.now) a.piece.now (sym c.in-Promises.is ∙ z.size_over.ensures) in
     omega arith
@@ -16,9 +16,9 @@ overflow_add-stop c =
 pub returns-in-Refused : goal.returns-in-Refused
 returns-in-Refused c =
     let k = c.before.before.before in
-    let n = k.before.before.before in
-    let z = n.before.before in
-    let s = z.before.before.before.before in
+    let n = k.before.before in
+    let z = n.before in
+    let s = z in
     let a = s.args in
     let p = a.piece.now in
     let b = take a.held a.carry.now in
@@ -30,9 +30,9 @@ pub returns-in-Promises : goal.returns-in-Promises
 returns-in-Promises c =
     let k = c.before.before.before.before.before in
     let u = k.before.before in
-    let n = u.before.before in
+    let n = u in
     let z = n.before.before in
-    let s = z.before.before.before.before in
+    let s = z in
     let h = s.requires in
     let a = s.args in
     let p = a.piece.now in

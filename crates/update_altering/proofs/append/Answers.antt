@@ -45,7 +45,7 @@ overflow_add-at-2 c =
     omega arith
 
 pub copy_up-requires : goal.copy_up-requires
-copy_up-requires c κs =
+copy_up-requires c =
     let o = c.before.before.before.before.before.before in
     let a = o.args in
     let k = (Strings.in_work_lem a.tuple.now a.list.now a.work.now a.used a.at a.size a.from a.n o.requires.1 (omega arith)).1.0 in

@@ -8,10 +8,10 @@ use Rattle.update_delivering.proofs.Tuples.{few_bytes}
 use Rattle.update_delivering.proofs.deliver.Goals as goal
 
 pub tuple_length-length-requires : goal.tuple_length-length-requires
-tuple_length-length-requires c κs = let p = c.requires in (omega (arith, p.few), omega (arith, few_bytes p))
+tuple_length-length-requires c = let p = c.requires in (omega (arith, p.few), omega (arith, few_bytes p))
 
 pub write_tuple-requires : goal.write_tuple-requires
-write_tuple-requires c κs = let p = c.requires in (p, omega (arith, p.long, c.tuple_length-length.ensures))
+write_tuple-requires c = let p = c.requires in (p, omega (arith, p.long, c.tuple_length-length.ensures))
 
 pub returns-then-out-length : goal.returns-then-out-length
 returns-then-out-length c =

@@ -26,7 +26,7 @@ returns-then-undo-undo_length c =
     (undo-short _ _ o.args.out.now o.args.undo.now (omega (arith, L.long)) (omega (arith, o.requires.0.long, u.tuple_length-length.ensures)) ∙ press-is _ o.args.out.now o.args.undo.now L.is, omega arith)
 
 pub write_undo-requires : goal.write_undo-requires
-write_undo-requires c κs =
+write_undo-requires c =
     let u = c.before.before.before.before.before.before.before.before in
     let o = u.before.before.before.before.before.before.before.before.before in
     let L = undo-limited o.requires.1 u.undo_length-undo_length.result u.undo_length-undo_length.ensures (λ e. omega arith) in

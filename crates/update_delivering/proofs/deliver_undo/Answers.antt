@@ -19,7 +19,7 @@ returns-then-out-length c =
     (too_short_lem _ o.args.out.now (omega (arith, L.long)) ∙ ap (λ x. delivered x o.args.out.now) (sym L.is), omega arith)
 
 pub write_undo-requires : goal.write_undo-requires
-write_undo-requires c κs =
+write_undo-requires c =
     let m = c.before.before.before in
     let o = m.before.before.before.before.before.before in
     let L = undo-limited o.requires m.undo_length-length.result m.undo_length-length.ensures (λ e. omega arith) in

@@ -7,14 +7,14 @@ use Rattle.update_delivering.proofs.Sides.{rear_side, gathers_front, gathers_mid
 use Rattle.update_delivering.proofs.gather.Goals as goal
 
 pub gather_side-a-requires : goal.gather_side-a-requires
-gather_side-a-requires c κs =
+gather_side-a-requires c =
     let r = c.before.before in
     let p = r.requires in
     let e = r.rear_from-last.ensures in
     (gathers_front p.0 p.1 r.rear_from-last.result e.0 e.1 e.2, p.1.front)
 
 pub gather_each-b-requires : goal.gather_each-b-requires
-gather_each-b-requires c κs =
+gather_each-b-requires c =
     let f = c.before.before.before.before in
     let r = f.before.before.before in
     let p = r.requires in
@@ -22,7 +22,7 @@ gather_each-b-requires c κs =
     gathers_middle p.0 p.1 r.rear_from-last.result e.0 e.1 e.2 f.gather_side-a.ensures
 
 pub gather_side-requires : goal.gather_side-requires
-gather_side-requires c κs =
+gather_side-requires c =
     let g = c.before.before.before.before in
     let f = g.before.before.before.before.before in
     let r = f.before.before.before in
@@ -42,4 +42,4 @@ returns c =
     written (gathered_all p.0 p.1 r.rear_from-last.result e.0 e.1 e.2 f.gather_side-a.ensures g.gather_each-b.ensures c.gather_side.ensures)
 
 pub slice_bounds-gather_side-end : goal.slice_bounds-gather_side-end
-slice_bounds-gather_side-end c = let o = c.before.before.before.before.before.before.before in sym (length-take-le o.args.low o.args.entries.now o.requires.1.low_fits)
+slice_bounds-gather_side-end c = let o = c in sym (length-take-le o.args.low o.args.entries.now o.requires.1.low_fits)

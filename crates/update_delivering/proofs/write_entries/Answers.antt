@@ -6,7 +6,7 @@ use Rattle.update_delivering.proofs.Undos.{Rear, rear-begun, rear-room, rear-wri
 use Rattle.update_delivering.proofs.write_entries.Goals as goal
 
 pub write_entry-to-requires : goal.write_entry-to-requires
-write_entry-to-requires c κs =
+write_entry-to-requires c =
     let l = c.before.before.before in
     let o = l.before.before.before.before.before.before in
     let a = o.args in

@@ -4,7 +4,7 @@ use Rattle.update_delivering.proofs.Delivered.{undo-room, undo-written}
 use Rattle.update_delivering.proofs.write_undo.Goals as goal
 
 pub write_entries-requires : goal.write_entries-requires
-write_entries-requires c κs =
+write_entries-requires c =
     let h = c.before.before.before in
     let o = h.before.before.before.before.before.before.before in
     (o.requires.0, undo-room _ _ _ o.args.out.now o.requires.0 o.requires.1 h.write_array_header-at.ensures)

@@ -28,11 +28,11 @@ pub overflow_sub-quick : goal.overflow_sub-quick
 overflow_sub-quick c = let e = place_after (value_good field_depth) c.loop-i.invariant.2 (omega arith) (c.short_end-quick.ensures c.if-quick-gt0.true) in omega arith
 
 pub returns-in-Broken : goal.returns-in-Broken
-returns-in-Broken c = let r = c.before.before.before in let l = r.before.before.before.before in next-broken (value_good field_depth) l.loop-i.invariant.2
+returns-in-Broken c = let r = c.before in let l = r.before.before.before.before in next-broken (value_good field_depth) l.loop-i.invariant.2
     (omega arith) (omega arith) (sym c.in-Broken.is ∙ r.read_value.ensures)
 
 pub overflow_sub-end : goal.overflow_sub-end
-overflow_sub-end c = let r = c.before.before.before in let l = r.before.before.before.before in
+overflow_sub-end c = let r = c.before in let l = r.before.before.before.before in
     let e = place_after (value_good field_depth) l.loop-i.invariant.2 (omega arith) (sym c.in-Whole.is ∙ r.read_value.ensures) in omega arith
 
 pub returns : goal.returns

@@ -32,10 +32,10 @@ pub overflow_cast-result : goal.overflow_cast-result
 overflow_cast-result c = omega (arith, c.type_inv.s c.args.at)
 
 pub returns-in-Is : goal.returns-in-Is
-returns-in-Is c = told c.before.before.before c.in-Is.is
+returns-in-Is c = told c.before c.in-Is.is
 
 pub returns-in-Cut : goal.returns-in-Cut
-returns-in-Cut c = told c.before.before c.in-Cut.is
+returns-in-Cut c = told c.before c.in-Cut.is
 
 pub returns-in-Other : goal.returns-in-Other
-returns-in-Other c = told c.before.before c.in-Other.is
+returns-in-Other c = told c.before c.in-Other.is

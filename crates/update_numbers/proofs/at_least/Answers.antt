@@ -16,13 +16,13 @@ told : (c : After-any_integer) {x : Signed} → c.any_integer.result ≡ x
 told c q = let a = c.args in least a.s.now (drop a.at a.s.now) c.any_integer.ensures a.low q
 
 pub returns-in_default : goal.returns-in_default
-returns-in_default c = told c.before.before c.in_default.is
+returns-in_default c = told c.before c.in_default.is
 
 pub returns-in_default-z : goal.returns-in_default-z
-returns-in_default-z c = rw c.in_default-z.is at (told c.before.before.before.before.before c.in-Is.is)
+returns-in_default-z c = rw c.in_default-z.is at (told c.before.before c.in-Is.is)
 
 pub returns-then-n-low : goal.returns-then-n-low
-returns-then-n-low c = rw (c.in-FromZero.is, lt-leb _ _ c.if-n-low.true) at (told c.before.before.before.before.before.before.before c.in-Is.is)
+returns-then-n-low c = rw (c.in-FromZero.is, lt-leb _ _ c.if-n-low.true) at (told c.before.before.before c.in-Is.is)
 
 pub returns : goal.returns
-returns c = rw (c.in-FromZero.is, le-leb _ _ c.if-n-low.false) at (told c.before.before.before.before.before.before.before c.in-Is.is)
+returns c = rw (c.in-FromZero.is, le-leb _ _ c.if-n-low.false) at (told c.before.before.before c.in-Is.is)

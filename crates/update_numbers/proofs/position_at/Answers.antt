@@ -16,10 +16,10 @@ told : (c : After-any_integer) {x : Signed} → c.any_integer.result ≡ x → (
 told c q = let a = c.args in position-is a.s.now (drop a.at a.s.now) c.any_integer.ensures a.base q
 
 pub returns-in_default : goal.returns-in_default
-returns-in_default c = told c.before.before c.in_default.is
+returns-in_default c = told c.before c.in_default.is
 
 pub returns-in_default-field_of : goal.returns-in_default-field_of
-returns-in_default-field_of c = rw (← c.field_of.ensures, c.in_default-field_of.is) at (told c.before.before.before.before.before.before c.in-Is.is)
+returns-in_default-field_of c = rw (← c.field_of.ensures, c.in_default-field_of.is) at (told c.before.before.before c.in-Is.is)
 
 pub returns : goal.returns
-returns c = rw (← c.field_of.ensures, c.in-At.is) at (told c.before.before.before.before.before.before.before c.in-Is.is)
+returns c = rw (← c.field_of.ensures, c.in-At.is) at (told c.before.before.before c.in-Is.is)

@@ -17,14 +17,14 @@ told : (c : After-header_at) {x : Header} → c.header_at.result ≡ x
 told c q = let a = c.args in ap (string_of a.s.now) (sym q) ∙ string-at a.s.now a.at c.header_at.ensures
 
 pub returns-in_default : goal.returns-in_default
-returns-in_default c = told c.before.before c.in_default.is
+returns-in_default c = told c.before c.in_default.is
 
 pub overflow_sub-s : goal.overflow_sub-s
-overflow_sub-s c = let h = c.before.before.before in let a = h.args in
+overflow_sub-s c = let h = c.before in let a = h.args in
     let k = string-start a.s.now a.at h.header_at.ensures c.in-Is.is in omega arith
 
 pub returns-then-s-start : goal.returns-then-s-start
-returns-then-s-start c = rw (lt-leb _ _ c.if-s-start.true) at (told c.before.before.before.before c.in-Is.is)
+returns-then-s-start c = rw (lt-leb _ _ c.if-s-start.true) at (told c.before.before c.in-Is.is)
 
 pub returns : goal.returns
-returns c = rw (le-leb _ _ c.if-s-start.false) at (told c.before.before.before.before c.in-Is.is)
+returns c = rw (le-leb _ _ c.if-s-start.false) at (told c.before.before c.in-Is.is)

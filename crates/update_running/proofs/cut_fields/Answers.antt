@@ -12,24 +12,24 @@ short c = form_short _ _ c.unsigned_length.ensures
 pub overflow_sub-result-2 : goal.overflow_sub-result-2
 overflow_sub-result-2 c =
     let g = c.before.before.before.before.before.before.before.before.before.before.before in
-    let o = g.before.before.before.before.before.before in
+    let o = g in
     let a = o.args in
     omega (arith, part-sum length_of a.stage.head a.stage.fields a.f a.m a.table.now o.requires.1, g.gone_of-gone.ensures.0, o.requires.0.bytes)
 
 pub overflow_add-result : goal.overflow_add-result
-overflow_add-result c = let o = c.before.before.before.before.before.before.before.before.before.before.before.before.before.before.before.before.before.before in omega (arith, o.requires.1, o.requires.0.few, o.requires.0.laid)
+overflow_add-result c = let o = c in omega (arith, o.requires.1, o.requires.0.few, o.requires.0.laid)
 
 pub overflow_add-result-2 : goal.overflow_add-result-2
 overflow_add-result-2 c =
     let g = c.before.before.before.before.before.before.before.before.before.before.before.before.before.before in
     let u = g.unsigned_length.result in
-    let o = g.before.before.before.before.before.before in
+    let o = g in
     let a = o.args in
     let h = short g.before in
     omega (arith, small-sum (3 + u) a.m (a.stage.head + a.f) a.table.now (omega arith), g.gone_of-gone.ensures.1, o.requires.1, o.requires.0.few, o.requires.0.back)
 
 pub overflow_add-f : goal.overflow_add-f
-overflow_add-f c = let o = c.before.before.before.before.before.before.before.before.before.before.before.before.before.before.before.before.before.before.before.before.before in omega (arith, o.requires.1, o.requires.0.few)
+overflow_add-f c = let o = c in omega (arith, o.requires.1, o.requires.0.few)
 
 pub overflow_sub-n : goal.overflow_sub-n
 overflow_sub-n c = c.requires.1

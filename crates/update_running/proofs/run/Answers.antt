@@ -16,7 +16,7 @@ pub loop-i-init : goal.loop-i-init
 loop-i-init c = let o = c.before.before.before.before.before in (course_begins o.requires, (refl, (refl, refl)))
 
 pub operation_at-requires : goal.operation_at-requires
-operation_at-requires c κs = search rules
+operation_at-requires c = search rules
 
 pub enum_known-field : goal.enum_known-field
 enum_known-field c = search rules
@@ -36,7 +36,7 @@ shape_of-back-in_default c = search rules
 pub returns-in_default : goal.returns-in_default
 returns-in_default c =
     let g = c.loop-i in
-    let o = c.before.before.before.before.before.before.before.before.before.before in
+    let o = c.before.before.before.before.before.before.before.before.before in
     let a = o.args in (
       course_bad a.base a.count a.first a.start _ a.tuple.now a.list.now g.work g.table g.back g.i g.at o.requires.few o.requires.short (omega arith) g.course g.invariant.0
           (operation_bad a.base a.list.now g.at c.operation_at.ensures c.in_default.is),
@@ -44,7 +44,7 @@ returns-in_default c =
     )
 
 pub step-requires : goal.step-requires
-step-requires c κs =
+step-requires c =
     let g = c.loop-i in
     let a = c.args in
     course_sound a.base a.count a.first a.start _ a.tuple.now a.list.now g.work g.table g.back g.i g.at g.course g.invariant.0
@@ -63,10 +63,10 @@ shape_of-back-in-Full c = search rules
 
 pub returns-in-Full : goal.returns-in-Full
 returns-in-Full c =
-    let k = c.before.before.before.before.before.before.before.before.before in
-    let f = k.before.before.before.before.before in
+    let k = c.before.before.before.before.before.before.before in
+    let f = k.before.before.before.before in
     let g = k.loop-i in
-    let o = k.before.before.before.before.before.before.before.before.before.before.before.before.before.before.before in
+    let o = k.before.before.before.before.before.before.before.before.before.before.before.before.before in
     let a = o.args in
     let d = operation-is a.base a.list.now g.at f.operation_at.ensures f.in-Is.is in
     let room : length g.work ≤ work_room = let e = g.invariant.1.0 in let h = o.requires.work in omega arith in
@@ -83,10 +83,10 @@ loop-i-smaller c = omega arith
 
 pub loop-i-preserved : goal.loop-i-preserved
 loop-i-preserved c =
-    let k = c.before.before.before.before.before.before.before.before.before in
-    let f = k.before.before.before.before.before in
+    let k = c.before.before.before.before.before.before.before in
+    let f = k.before.before.before.before in
     let g = k.loop-i in
-    let o = k.before.before.before.before.before.before.before.before.before.before.before.before.before.before.before in
+    let o = k.before.before.before.before.before.before.before.before.before.before.before.before.before in
     let a = o.args in
     let d = operation-is a.base a.list.now g.at f.operation_at.ensures f.in-Is.is in
     let room : length g.work ≤ work_room = let e = g.invariant.1.0 in let h = o.requires.work in omega arith in
@@ -94,7 +94,7 @@ loop-i-preserved c =
     (n.0, (n.1 ∙ g.invariant.1.0, (search rules, search rules)))
 
 pub finished-requires : goal.finished-requires
-finished-requires c κs = search rules
+finished-requires c = search rules
 
 pub shape_of-work : goal.shape_of-work
 shape_of-work c = search rules

@@ -4,7 +4,7 @@ use borrow.Author.Rules.{rules}
 use Rattle.updates.proofs.front_of.Goals as goal
 
 pub front_of-requires : goal.front_of-requires
-front_of-requires c κs = search rules
+front_of-requires c = search rules
 
 pub enum_known-count : goal.enum_known-count
 enum_known-count c = search rules

@@ -8,10 +8,10 @@ use borrow.Author.Rules.{rules}
 use Rattle.updates.proofs.update.Goals as goal
 
 pub updated-requires : goal.updated-requires
-updated-requires c κs = search rules
+updated-requires c = search rules
 
 pub answer_of-requires : goal.answer_of-requires
-answer_of-requires c κs =
+answer_of-requires c =
     let v = c.before.before in
     let a = c.args in
     told-few v.updated.result (update a.tuple.now a.list.now a.index-base) a.out.now v.updated.new.1.1.1.0 v.updated.ensures

@@ -20,11 +20,11 @@ slice_bounds-update_with-end c = search rules
 
 -- src/lib.rt:82:13
 pub update_with-requires : goal.update_with-requires
-update_with-requires c κs = search rules
+update_with-requires c = search rules
 
 -- src/lib.rt:82:5
 pub call_of-requires : goal.call_of-requires
-call_of-requires c κs = search rules
+call_of-requires c = search rules
 
 -- src/lib.rt:69:1
 pub shape_of-table : goal.shape_of-table

@@ -24,7 +24,7 @@ pub slice_bounds-write_bytes-end : goal.slice_bounds-write_bytes-end
 slice_bounds-write_bytes-end c = search rules
 
 pub write_bytes-length-requires : goal.write_bytes-length-requires
-write_bytes-length-requires c κs = search rules
+write_bytes-length-requires c = search rules
 
 pub loop-refusal-init : goal.loop-refusal-init
 loop-refusal-init c =
@@ -43,7 +43,7 @@ pub slice_bounds-update_with-end-in-loop-refusal : goal.slice_bounds-update_with
 slice_bounds-update_with-end-in-loop-refusal c = sym c.loop-refusal.invariant.1.1.1.1.1.0
 
 pub update_with-requires : goal.update_with-requires
-update_with-requires c κs = search rules
+update_with-requires c = search rules
 
 pub enum_told-1 : goal.enum_told-1
 enum_told-1 c = search rules
@@ -59,7 +59,7 @@ shape_of-out-in-NoRoom c = search rules
 
 pub returns-in-NoRoom : goal.returns-in-NoRoom
 returns-in-NoRoom c =
-    let u = c.before.before.before.before.before.before.before.before.before in
+    let u = c.before.before.before.before.before.before.before.before in
     let g = u.loop-refusal in
     let h = rw c.in-NoRoom.is at u.update_with.ensures in
     no_room g.table g.work g.other h.2 g.invariant.1.1.1.1.1.1.0 g.invariant.1.1.1.1.1.1.1 g.invariant.1.1.1.1.1.0
@@ -78,7 +78,7 @@ shape_of-out-in-Refused c = search rules
 
 pub returns-in-Refused : goal.returns-in-Refused
 returns-in-Refused c =
-    let u = c.before.before.before.before.before.before.before.before.before.before in
+    let u = c.before.before.before.before.before.before.before.before in
     let g = u.loop-refusal in
     let a = u.args in
     let h = rw c.in-Refused.is at u.update_with.ensures in
@@ -98,7 +98,7 @@ shape_of-out-in-Written c = search rules
 
 pub returns-in-Written : goal.returns-in-Written
 returns-in-Written c =
-    let u = c.before.before.before.before.before.before.before.before.before.before in
+    let u = c.before.before.before.before.before.before.before.before in
     let g = u.loop-refusal in
     let a = u.args in
     let h = rw c.in-Written.is at u.update_with.ensures in
@@ -112,27 +112,27 @@ slice_bounds-write_bytes-end-in-Moved c = sym c.loop-refusal.invariant.1.1.1.1.0
 
 pub slice_bounds-other-end : goal.slice_bounds-other-end
 slice_bounds-other-end c =
-    let m = c.before.before in
-    let u = m.before.before.before.before.before.before.before.before.before in
+    let m = c.before in
+    let u = m.before.before.before.before.before.before.before.before in
     let g = u.loop-refusal in
     let R = rw m.in-Moved.is at u.update_with.ensures in
     (rebased_room R.1).0
 
 pub slice_bounds-write_bytes-end-in-Moved-2 : goal.slice_bounds-write_bytes-end-in-Moved-2
 slice_bounds-write_bytes-end-in-Moved-2 c =
-    let m = c.before.before.before in
-    let u = m.before.before.before.before.before.before.before.before.before in
+    let m = c.before.before in
+    let u = m.before.before.before.before.before.before.before.before in
     let g = u.loop-refusal in
     let R = rw m.in-Moved.is at u.update_with.ensures in
     sym (length-take-le _ _ (rebased_room R.1).0)
 
 pub write_bytes-length-requires-in-Moved : goal.write_bytes-length-requires-in-Moved
-write_bytes-length-requires-in-Moved c κs = search rules
+write_bytes-length-requires-in-Moved c = search rules
 
 pub loop-refusal-smaller : goal.loop-refusal-smaller
 loop-refusal-smaller c =
-    let m = c.before.before.before.before.before in
-    let u = m.before.before.before.before.before.before.before.before.before in
+    let m = c.before.before.before.before in
+    let u = m.before.before.before.before.before.before.before.before in
     let g = u.loop-refusal in
     let R = rw m.in-Moved.is at u.update_with.ensures in
     let e = rebased_on R.1 g.invariant.1.1.1.1.1.1.1 in
@@ -140,8 +140,8 @@ loop-refusal-smaller c =
 
 pub loop-refusal-preserved : goal.loop-refusal-preserved
 loop-refusal-preserved c =
-    let m = c.before.before.before.before.before in
-    let u = m.before.before.before.before.before.before.before.before.before in
+    let m = c.before.before.before.before in
+    let u = m.before.before.before.before.before.before.before.before in
     let g = u.loop-refusal in
     let R = rw m.in-Moved.is at u.update_with.ensures in
     let e = rebased R.1 g.one c.write_bytes-length-in-Moved.ensures (omega arith) g.invariant.1.1.1.1.1.0 in

@@ -13,7 +13,7 @@ pub slice_bounds-update_in-end-2 : goal.slice_bounds-update_in-end-2
 slice_bounds-update_in-end-2 c = search rules
 
 pub update_in-requires : goal.update_in-requires
-update_in-requires c κs = search rules
+update_in-requires c = search rules
 
 pub enum_known-refusal : goal.enum_known-refusal
 enum_known-refusal c = search rules
@@ -31,7 +31,7 @@ pub slice_bounds-update_long-end-in-NoRoom : goal.slice_bounds-update_long-end-i
 slice_bounds-update_long-end-in-NoRoom c = search rules
 
 pub update_long-requires : goal.update_long-requires
-update_long-requires c κs = search rules
+update_long-requires c = search rules
 
 pub shape_of-out-in-Refused : goal.shape_of-out-in-Refused
 shape_of-out-in-Refused c = search rules

@@ -7,10 +7,10 @@ use borrow.Author.Rules.{rules}
 use Rattle.updates.proofs.updated.Goals as goal
 
 pub front_of-front-requires : goal.front_of-front-requires
-front_of-front-requires c κs = search rules
+front_of-front-requires c = search rules
 
 pub update_more-requires : goal.update_more-requires
-update_more-requires c κs = search rules
+update_more-requires c = search rules
 
 pub shape_of-out-then-list-gt-SHORT_LIST : goal.shape_of-out-then-list-gt-SHORT_LIST
 shape_of-out-then-list-gt-SHORT_LIST c = search rules
@@ -25,7 +25,7 @@ pub slice_bounds-update_in-end-2 : goal.slice_bounds-update_in-end-2
 slice_bounds-update_in-end-2 c = search rules
 
 pub update_in-requires : goal.update_in-requires
-update_in-requires c κs = search rules
+update_in-requires c = search rules
 
 pub enum_known-refusal : goal.enum_known-refusal
 enum_known-refusal c = search rules
@@ -37,7 +37,7 @@ pub enum_told-1 : goal.enum_told-1
 enum_told-1 c = search rules
 
 pub update_more-requires-in-NoRoom : goal.update_more-requires-in-NoRoom
-update_more-requires-in-NoRoom c κs = search rules
+update_more-requires-in-NoRoom c = search rules
 
 pub shape_of-out-in-Refused : goal.shape_of-out-in-Refused
 shape_of-out-in-Refused c = search rules
