@@ -2,7 +2,6 @@
 use mathlib.Core.Path.{sym, ap, ◌∙◌}
 use mathlib.Core.Bool.{◌&&◌}
 use borrow.Author.Rules.{rules}
-use borrow.Author.Tests.{not-true, not-false}
 use lib.ListN.{take}
 use lib.Seq.{length-take-le}
 use Rattle.frames.specs.Held.{suits as suitsRule, Item}
@@ -36,7 +35,7 @@ facts c =
     let hs = header_items a.frame in
     let bs = body_items a.frame a.bytes.now in
     record {
-      known = code_known a.frame.code n.needs-of.ensures (not-false _ b.if-not-needs.false);
+      known = code_known a.frame.code n.needs-of.ensures b.if-not-needs.false;
       four = both (λ (x : Item). soundHeld x.held) hs bs (ap (λ (j : Judgement). j.sound) h) (ap (λ (j : Judgement). j.sound) g);
       nine = both (λ (x : Item). suitsRule x.rule x.held) hs bs (ap (λ (j : Judgement). j.suited) h) (ap (λ (j : Judgement). j.suited) g);
       ten = c.holds_all-there.ensures;
@@ -44,26 +43,26 @@ facts c =
     }
 
 pub returns-then-not-sound : goal.returns-then-not-sound
-returns-then-not-sound c = rw c.refused-then-not-sound.ensures (call_4 _ (facts c.before.before.before.before.before.before) (not-true _ c.if-not-sound.true))
+returns-then-not-sound c = rw c.refused-then-not-sound.ensures (call_4 _ (facts c.before.before.before.before.before.before) c.if-not-sound.true)
 
 pub returns-then-not-suited : goal.returns-then-not-suited
-returns-then-not-suited c = rw c.refused-then-not-suited.ensures (call_9 _ (facts c.before.before.before.before.before.before.before) (not-false _ c.if-not-sound.false) (not-true _ c.if-not-suited.true))
+returns-then-not-suited c = rw c.refused-then-not-suited.ensures (call_9 _ (facts c.before.before.before.before.before.before.before) c.if-not-sound.false c.if-not-suited.true)
 
 pub returns-then-not-there : goal.returns-then-not-there
 returns-then-not-there c =
     let t = c.before.before.before in
-    rw c.refused-then-not-there.ensures (call_10 _ (facts t.before.before.before.before.before) (not-false _ t.if-not-sound.false) (not-false _ c.if-not-suited.false) (not-true _ c.if-not-there.true))
+    rw c.refused-then-not-there.ensures (call_10 _ (facts t.before.before.before.before.before) t.if-not-sound.false c.if-not-suited.false c.if-not-there.true)
 
 pub returns-then-size-gt-MAX_SIZE : goal.returns-then-size-gt-MAX_SIZE
 returns-then-size-gt-MAX_SIZE c =
     let t = c.before.before.before.before in
-    rw c.refused-then-size-gt-MAX_SIZE.ensures (call_3 _ (facts t.before.before.before.before.before) (not-false _ t.if-not-sound.false) (not-false _ c.if-not-suited.false) (not-false _ c.if-not-there.false) c.if-size-gt-MAX_SIZE.true)
+    rw c.refused-then-size-gt-MAX_SIZE.ensures (call_3 _ (facts t.before.before.before.before.before) t.if-not-sound.false c.if-not-suited.false c.if-not-there.false c.if-size-gt-MAX_SIZE.true)
 
 pub returns-then-out-size : goal.returns-then-out-size
 returns-then-out-size c =
     let f = c.before.before.before in
     let t = f.before.before in
-    rw c.refused-then-out-size.ensures (call_18 _ (facts t.before.before.before.before.before) (not-false _ t.if-not-sound.false) (not-false _ f.if-not-suited.false) (not-false _ f.if-not-there.false) c.if-size-gt-MAX_SIZE.false c.if-out-size.true)
+    rw c.refused-then-out-size.ensures (call_18 _ (facts t.before.before.before.before.before) t.if-not-sound.false f.if-not-suited.false f.if-not-there.false c.if-size-gt-MAX_SIZE.false c.if-out-size.true)
 
 pub put_frame-length-requires : goal.put_frame-length-requires
 put_frame-length-requires c =
@@ -78,10 +77,10 @@ returns c =
     let s = c.before.before.before.before in
     let f = s.before.before in
     let t = f.before.before in
-    call_0 _ (facts t.before.before.before.before.before) (not-false _ t.if-not-sound.false) (not-false _ f.if-not-suited.false) (not-false _ f.if-not-there.false) s.if-size-gt-MAX_SIZE.false s.if-out-size.false c.put_frame-length.ensures
+    call_0 _ (facts t.before.before.before.before.before) t.if-not-sound.false f.if-not-suited.false f.if-not-there.false s.if-size-gt-MAX_SIZE.false s.if-out-size.false c.put_frame-length.ensures
 
 pub returns-then-not-needs : goal.returns-then-not-needs
-returns-then-not-needs c = rw c.refused.ensures (call_8 _ _ _ (code_unknown _ c.needs_of-needs.ensures (not-true _ c.if-not-needs.true)))
+returns-then-not-needs c = rw c.refused.ensures (call_8 _ _ _ (code_unknown _ c.needs_of-needs.ensures c.if-not-needs.true))
 
 pub slice_bounds-keys-end : goal.slice_bounds-keys-end
 slice_bounds-keys-end c = keys-fit _ c.needs_of-needs.ensures
