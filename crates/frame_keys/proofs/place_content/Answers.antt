@@ -4,7 +4,7 @@ use mathlib.Core.Path.{◌≡◌}
 use mathlib.Core.Bool.{true}
 use native.Mathlib.Omega.{arith}
 use borrow.Author.Rules.{rules}
-use borrow.Author.Tests.{le-leb, lt-leb}
+use borrow.Author.Tests.{not-true, not-false, le-leb, lt-leb}
 use lib.ListN.{length}
 use Rattle.frames.specs.declared.Place.{Place}
 use Rattle.frame_items.specs.Content.{place_content}
@@ -22,13 +22,13 @@ unfolding place_content
 inside s p e h = rw (e, le-leb (p.start + p.length) (length s) h)
 
 pub returns-then-not-place : goal.returns-then-not-place
-returns-then-not-place c = unfold place_content in rw c.if-not-place.true
+returns-then-not-place c = unfold place_content in rw (not-true c.args.place.present c.if-not-place.true)
 
 pub returns-then-bytes-start : goal.returns-then-bytes-start
-returns-then-bytes-start c = outside _ _ c.if-not-place.false (omega arith)
+returns-then-bytes-start c = outside _ _ (not-false _ c.if-not-place.false) (omega arith)
 
 pub returns-then-bytes-start-2 : goal.returns-then-bytes-start-2
-returns-then-bytes-start-2 c = outside _ _ c.if-not-place.false (omega arith)
+returns-then-bytes-start-2 c = outside _ _ (not-false _ c.if-not-place.false) (omega arith)
 
 pub returns : goal.returns
-returns c = inside _ _ c.if-not-place.false (omega arith)
+returns c = inside _ _ (not-false _ c.if-not-place.false) (omega arith)

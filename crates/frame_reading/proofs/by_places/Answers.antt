@@ -5,6 +5,7 @@ use mathlib.Core.List.{List}
 use mathlib.Core.Bool.{Bool, ◌&&◌}
 use mathlib.Core.Option.{some}
 use borrow.Author.Rules.{rules}
+use borrow.Author.Tests.{not-true, not-false}
 use lib.ListN.{take}
 use lib.Seq.{length-take-le}
 use Rattle.msgpack_first_bytes.specs.Bytes.{Bytes}
@@ -24,13 +25,13 @@ facts p q r = record { coded = p; known = q; nine = r }
 
 pub returns-then-not-code : goal.returns-then-not-code
 unfolding code_in
-returns-then-not-code c = c.refused.ensures ∙ no_code _ _ _ (code-absent _ _ c.number_in-code.ensures c.if-not-code.true)
+returns-then-not-code c = c.refused.ensures ∙ no_code _ _ _ (code-absent _ _ c.number_in-code.ensures (not-true _ c.if-not-code.true))
 
 pub returns-then-not-needs : goal.returns-then-not-needs
 unfolding code_in
 returns-then-not-needs c =
     c.refused-then-not-needs.ensures
-    ∙ no_such_code _ _ _ _ (code_there _ _ c.number_in-code.ensures c.if-not-code.false) (code_unknown _ c.needs_of-needs.ensures c.if-not-needs.true)
+    ∙ no_such_code _ _ _ _ (code_there _ _ c.number_in-code.ensures (not-false _ c.if-not-code.false)) (code_unknown _ c.needs_of-needs.ensures (not-true _ c.if-not-needs.true))
 
 pub returns-then-not-all_there : goal.returns-then-not-all_there
 unfolding code_in
@@ -39,7 +40,7 @@ returns-then-not-all_there c =
     c.refused-then-not-all_there.ensures
     ∙ not_all_there
         (facts {s = a.s.now} {f = place_in a.header_starts.now a.header_lengths.now} {g = place_in a.starts.now a.lengths.now}
-        (code_there _ _ c.number_in-code.ensures c.if-not-code.false) (code_known _ c.needs_of-needs.ensures c.if-not-needs.false)
+        (code_there _ _ c.number_in-code.ensures (not-false _ c.if-not-code.false)) (code_known _ c.needs_of-needs.ensures (not-false _ c.if-not-needs.false))
         (ap₂ ◌&&◌ c.header_suits.ensures c.body_suits.ensures))
         c.if-not-suited.false c.all_there.ensures c.if-not-all_there.true
 
@@ -49,7 +50,7 @@ returns c =
     let a = c.args in
     accepted
     (facts {s = a.s.now} {f = place_in a.header_starts.now a.header_lengths.now} {g = place_in a.starts.now a.lengths.now}
-    (code_there _ _ c.number_in-code.ensures c.if-not-code.false) (code_known _ c.needs_of-needs.ensures c.if-not-needs.false)
+    (code_there _ _ c.number_in-code.ensures (not-false _ c.if-not-code.false)) (code_known _ c.needs_of-needs.ensures (not-false _ c.if-not-needs.false))
     (ap₂ ◌&&◌ c.header_suits.ensures c.body_suits.ensures))
     c.if-not-suited.false c.all_there.ensures c.if-not-all_there.false c.frame_of-frame.ensures
 
@@ -60,7 +61,7 @@ returns-then-not-suited c =
     c.refused-then-not-suited.ensures
     ∙ unsuited
         (facts {s = a.s.now} {f = place_in a.header_starts.now a.header_lengths.now} {g = place_in a.starts.now a.lengths.now}
-        (code_there _ _ c.number_in-code.ensures c.if-not-code.false) (code_known _ c.needs_of-needs.ensures c.if-not-needs.false)
+        (code_there _ _ c.number_in-code.ensures (not-false _ c.if-not-code.false)) (code_known _ c.needs_of-needs.ensures (not-false _ c.if-not-needs.false))
         (ap₂ ◌&&◌ c.header_suits.ensures c.body_suits.ensures))
         c.if-not-suited.true
 
