@@ -6,12 +6,15 @@ use Rattle.frames.specs.Codes.{is_error}
 use Rattle.frame_rules.proofs.Laws.{unknown_code}
 use Rattle.frame_listing_fields.specs.Names.{names, name_in, kind_of}
 use Rattle.frame_listing_fields.proofs.Names.{error_name, no_name}
+use Rattle.frame_listing_fields.proofs.kind_of.Goals.{in_default-via-then-code-lt32768, in_default-via-else-code-lt32768+else-code-lt36864}
 use Rattle.frame_listing_fields.proofs.kind_of.Goals as goal
 
 pub returns-in_default : goal.returns-in_default
 returns-in_default c =
-    let i = c.before.before in
-    (sym (no_name _ (unknown_code _ (⊎_elim (λ w. inl w.taken) (λ w. inr w.1.left) i.in_default.branch) i.in_default-1.rest)), omega arith)
+    elim c.in_default.branch [
+      in_default-via-then-code-lt32768 w ↦ let h = w in ?
+    | in_default-via-else-code-lt32768+else-code-lt36864 w ↦ let h = c.in_default-1 in ?
+    ]
 
 pub returns-in-0 : goal.returns-in-0
 unfolding kind_of is_error name_in names
