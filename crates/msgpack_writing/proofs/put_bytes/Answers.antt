@@ -8,7 +8,7 @@ use lib.Seq.{take-length}
 use Rattle.msgpack_writing.proofs.Turns.{copy_turn}
 use Rattle.msgpack_writing.proofs.put_bytes.Goals as goal
 
-pub loop-i-preserved : goal.loop-i-preserved (λ out₀ bytes i₀ out i. length bytes - i)
+pub loop-i-preserved : goal.loop-i-preserved
 loop-i-preserved c =
     let l = c.before.before in
     let a = l.args in
