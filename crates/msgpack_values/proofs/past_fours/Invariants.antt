@@ -1,6 +1,5 @@
 -- Four more at each turn. The places up to the stop fall.
 use borrow.Author.Rules.{rules}
-use borrow.Author.Tests.{not-false}
 use native.Mathlib.Omega.{arith}
 use Prim.Native.Nat.{◌+◌, ◌-◌, ◌≤◌}
 use Rattle.msgpack_values.specs.Tokens.{Ones}

@@ -1,6 +1,6 @@
 -- One more at each turn. The places up to the stop fall.
 use borrow.Author.Rules.{rules}
-use borrow.Author.Tests.{eqb-true, not-false}
+use borrow.Author.Tests.{eqb-true}
 use native.Mathlib.Omega.{arith}
 use Prim.Native.Nat.{◌+◌, ◌-◌, ◌≤◌}
 use mathlib.Core.Path.{refl, sym, ◌∙◌}
@@ -15,7 +15,7 @@ loop-end-preserved c =
     let a = c.args in (
       omega arith,
       joined a.s.now a.at l.end (l.end + 1) l.invariant.1
-          (one a.s.now l.end (l.end + 1) refl (eqb-true _ array_of_one (sym c.is_array_of_one.ensures ∙ not-false _ c.if-not-is_array_of_one.false))),
+          (one a.s.now l.end (l.end + 1) refl (eqb-true _ array_of_one (sym c.is_array_of_one.ensures ∙ c.if-not-is_array_of_one.false))),
     )
 
 pub loop-end-init : goal.loop-end-init
