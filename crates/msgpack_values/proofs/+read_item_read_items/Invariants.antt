@@ -12,8 +12,9 @@ decreases-read_item l = 2 * (l.depth + (length l.s.now - l.at))
 abbrev pub decreases-read_items : goal.decreases-read_items
 decreases-read_items l = 2 * (l.depth + (length l.s.now - l.at)) + 1
 
-abbrev pub invariant-loop-left : goal.invariant-loop-left
-invariant-loop-left l = (l.at ≤ l.end) × (shift l.at (items (value l.depth) l.n (drop l.at l.s)) ≡ shift l.end (items (value l.depth) l.left (drop l.end l.s)))
+abbrev pub invariant-read_items-loop-left : goal.invariant-read_items-loop-left
+invariant-read_items-loop-left l =
+    (l.at ≤ l.end) × (shift l.at (items (value l.depth) l.n (drop l.at l.s)) ≡ shift l.end (items (value l.depth) l.left (drop l.end l.s)))
 
-abbrev pub decreases-loop-left : goal.decreases-loop-left
-decreases-loop-left l = l.left
+abbrev pub decreases-read_items-loop-left : goal.decreases-read_items-loop-left
+decreases-read_items-loop-left l = l.left
