@@ -1,5 +1,4 @@
 -- None, or those that are passed, four at a turn and then one.
-use borrow.Author.Rules.{rules}
 use native.Mathlib.Omega.{arith}
 use Prim.Native.Nat.{◌≤◌, ◌+◌}
 use mathlib.Core.Path.{refl}

@@ -1,11 +1,9 @@
 -- One more at each turn. The places up to the stop fall.
-use borrow.Author.Rules.{rules}
 use borrow.Author.Tests.{eqb-true}
 use native.Mathlib.Omega.{arith}
-use Prim.Native.Nat.{◌+◌, ◌-◌, ◌≤◌}
+use Prim.Native.Nat.{◌+◌}
 use mathlib.Core.Path.{refl, sym, ◌∙◌}
 use Rattle.msgpack_first_bytes.specs.Entry.{array_of_one}
-use Rattle.msgpack_values.specs.Tokens.{Ones}
 use Rattle.msgpack_values.proofs.Tokens.{no_ones, one, joined}
 use Rattle.msgpack_values.proofs.past_ones.Goals as goal
 

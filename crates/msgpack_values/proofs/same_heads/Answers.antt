@@ -1,11 +1,9 @@
 -- The invariant: reading goes on where the run has come to; where it goes on, the next item has the same head. The items left fall.
-use borrow.Author.Rules.{rules}
 use native.Mathlib.Omega.{arith}
-use Prim.Native.Nat.{ℕ, suc, ◌+◌, ◌-◌, ◌<◌, ◌≤◌}
+use Prim.Native.Nat.{suc, ◌+◌, ◌-◌}
 use mathlib.Core.Path.{◌≡◌, refl, sym, ◌∙◌}
-use mathlib.Core.Bool.{true}
-use lib.ListN.{length, drop, get_or}
-use Rattle.msgpack_values.specs.Value.{shift, items, value}
+use lib.ListN.{get_or}
+use Rattle.msgpack_values.specs.Value.{value}
 use Rattle.msgpack_values.specs.Tokens.{Same}
 use Rattle.msgpack_values.proofs.Laws.{items-whole}
 use Rattle.msgpack_values.proofs.same_heads.Goals.{In-loop-more}
