@@ -1,6 +1,6 @@
 -- A count by the first byte and the bytes after it.
 use native.Mathlib.Omega.{arith}
-use Prim.Native.Nat.{ℕ, ◌+◌, ◌*◌, ◌^◌, ◌<◌, ◌≤◌}
+use Prim.Native.Nat.{ℕ, ◌+◌, ◌^◌, ◌<◌, ◌≤◌}
 use mathlib.Core.Path.{◌≡◌, sym, ◌∙◌}
 use lib.ListN.{length, take, drop}
 use Rattle.msgpack_first_bytes.specs.Bytes.{Bytes}
@@ -9,7 +9,6 @@ use Rattle.msgpack_numbers.proofs.Big as Big
 use Rattle.msgpack_numbers.proofs.Big.{number_missing, number_is}
 use Rattle.msgpack_scalars.specs.Header.{counted}
 use Rattle.msgpack_scalars.proofs.Laws as Laws
-use borrow.Author.Rules.{rules}
 use Rattle.msgpack_scalars.proofs.counted_at.Goals.{In-Is}
 use Rattle.msgpack_scalars.proofs.counted_at.Goals as goal
 

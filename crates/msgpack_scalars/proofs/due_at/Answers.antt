@@ -6,7 +6,6 @@ use lib.ListN.{drop}
 use Rattle.msgpack_scalars.specs.Start.{scalar_of}
 use Rattle.msgpack_scalars.specs.Integer.{due_in, due}
 use Rattle.msgpack_scalars.proofs.Laws as Laws
-use borrow.Author.Rules.{rules}
 use Rattle.msgpack_scalars.proofs.due_at.Goals.{After-scalar_start}
 use Rattle.msgpack_scalars.proofs.due_at.Goals as goal
 

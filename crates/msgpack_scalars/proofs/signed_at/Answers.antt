@@ -7,7 +7,6 @@ use Rattle.msgpack_first_bytes.specs.FirstByte.{form_of, same_kind}
 use Rattle.msgpack_first_bytes.specs.declared.Kind.TheVariants.{Signed}
 use Rattle.msgpack_scalars.specs.Integer.{signed, signed_by}
 use Rattle.msgpack_scalars.proofs.Laws.{little, due_there}
-use borrow.Author.Rules.{rules}
 use Rattle.msgpack_scalars.proofs.signed_at.Goals.{In-More}
 use Rattle.msgpack_scalars.proofs.signed_at.Goals as goal
 

@@ -8,7 +8,6 @@ use lib.ListN.{drop}
 use lib.Seq.{get_or-drop}
 use Rattle.msgpack_scalars.specs.Integer.{natural_of, signed_of}
 use Rattle.msgpack_scalars.proofs.Laws as Laws
-use borrow.Author.Rules.{rules}
 use Rattle.msgpack_scalars.proofs.signed_of.Goals.{After-sign_bit-half}
 use Rattle.msgpack_scalars.proofs.signed_of.Goals as goal
 

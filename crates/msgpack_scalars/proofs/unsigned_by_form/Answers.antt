@@ -7,7 +7,6 @@ use Rattle.msgpack_first_bytes.specs.FirstByte.{form_of, same_kind}
 use Rattle.msgpack_first_bytes.specs.declared.Kind.TheVariants.{Unsigned}
 use Rattle.msgpack_scalars.specs.Integer.{unsigned, unsigned_by}
 use Rattle.msgpack_scalars.proofs.Laws.{little, due_there}
-use borrow.Author.Rules.{rules}
 use Rattle.msgpack_scalars.proofs.unsigned_by_form.Goals.{In-More}
 use Rattle.msgpack_scalars.proofs.unsigned_by_form.Goals as goal
 
