@@ -1,14 +1,12 @@
 -- `put_bytes` goes from the first byte to the last: what it has written, with what stands after it, is the buffer.
 use mathlib.Core.Path.{◌≡◌, refl, ◌∙◌}
-use mathlib.Core.List.{◌++◌}
-use Prim.Native.Nat.{◌-◌, ◌≤◌}
 use native.Mathlib.Omega.{arith}
-use lib.ListN.{length, take, drop, length-set}
+use lib.ListN.{length, length-set}
 use lib.Seq.{take-length}
 use Rattle.msgpack_writing.proofs.Turns.{copy_turn}
 use Rattle.msgpack_writing.proofs.put_bytes.Goals as goal
 
-pub loop-i-preserved : goal.loop-i-preserved (λ out₀ bytes i₀ out i. length bytes - i)
+pub loop-i-preserved : goal.loop-i-preserved
 loop-i-preserved c =
     let l = c.before.before in
     let a = l.args in
