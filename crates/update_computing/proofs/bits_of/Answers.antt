@@ -14,11 +14,9 @@ field o = bytes_from o.args.tuple.now o.args.list.now o.args.work.now o.args.at 
 pub returns-in_default : goal.returns-in_default
 unfolding field
 returns-in_default c =
-    let o = c.before.before.before.before.before in
-    Numbers.bits_unsuited o.args.by o.args.v (field o) c.natural_in.ensures c.in_default.is
+    Numbers.bits_unsuited c.args.by c.args.v (field c) c.natural_in.ensures c.in_default.is
 
 pub returns : goal.returns
 unfolding field
 returns c =
-    let o = c.before.before.before.before.before.before in
-    Numbers.bits_is o.args.by o.args.v (field o) c.natural_in.ensures c.in-Is.is c.combine.ensures (omega arith)
+    Numbers.bits_is c.args.by c.args.v (field c) c.natural_in.ensures c.in-Is.is c.combine.ensures (omega arith)

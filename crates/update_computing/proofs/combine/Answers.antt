@@ -10,10 +10,10 @@ same : (o : Start) {b : Bitwise} → o.args.by ≡ b → bitwise_of b o.args.n o
 same o e = sym (ap (λ (b : Bitwise). bitwise_of b o.args.n o.args.v) e)
 
 pub returns-in-And : goal.returns-in-And
-returns-in-And c = same c.before c.in-And.is
+returns-in-And c = same c c.in-And.is
 
 pub returns-in-Xor : goal.returns-in-Xor
-returns-in-Xor c = same c.before c.in-Xor.is
+returns-in-Xor c = same c c.in-Xor.is
 
 pub returns-in-Or : goal.returns-in-Or
-returns-in-Or c = same c.before c.in-Or.is
+returns-in-Or c = same c c.in-Or.is

@@ -13,17 +13,14 @@ field o = bytes_from o.args.tuple.now o.args.list.now o.args.work.now o.args.at 
 pub returns-in_default : goal.returns-in_default
 unfolding field
 returns-in_default c =
-    let o = c.before.before.before.before.before in
-    Numbers.sum_unsuited o.args.minus o.args.v (field o) c.integer_in.ensures c.in_default.is
+    Numbers.sum_unsuited c.args.minus c.args.v (field c) c.integer_in.ensures c.in_default.is
 
 pub returns-in_default-total : goal.returns-in_default-total
 unfolding field
 returns-in_default-total c =
-    let o = c.before.before.before.before.before.before.before in
-    Numbers.sum_is o.args.minus o.args.v (field o) c.integer_in.ensures c.in-Is.is c.total.ensures c.in_default-total.is
+    Numbers.sum_is c.args.minus c.args.v (field c) c.integer_in.ensures c.in-Is.is c.total.ensures c.in_default-total.is
 
 pub returns : goal.returns
 unfolding field
 returns c =
-    let o = c.before.before.before.before.before.before.before in
-    Numbers.sum_is o.args.minus o.args.v (field o) c.integer_in.ensures c.in-Is.is c.total.ensures c.in-Is-total.is
+    Numbers.sum_is c.args.minus c.args.v (field c) c.integer_in.ensures c.in-Is.is c.total.ensures c.in-Is-total.is
