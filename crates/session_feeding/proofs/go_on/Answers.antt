@@ -28,7 +28,7 @@ returns-in-Promises c =
     let p = a.piece.now in
     let b = take a.held a.carry.now in
     let l : a.held ≡ length b = sym (length-take-le a.held a.carry.now h.0) in
-    let e = sym c.size-1.given.1 ∙ c.size_over.ensures in (
+    let e = sym c.in-Promises.is ∙ c.size_over.ensures in (
       (promised_stop b p e, promised_answer p a.carry.now a.held h.0 h.1 e c.above.ensures c.keep-in-Promises.ensures c.view-frame.ensures c.contents.ensures),
       carry_is b p a.carry.now l (promised_stop b p e) (rw c.above.ensures (come b p e l) ∙ promised_settled b p e) c.keep-in-Promises.ensures,
     )
