@@ -6,14 +6,14 @@ use Rattle.update_delivering.proofs.undo_with.Goals as goal
 
 pub deliver_undo-requires : goal.deliver_undo-requires
 deliver_undo-requires c =
-    let s = c.before.before in
-    let k = s.before.before.before.before.before.before.before in
+    let s = c in
+    let k = s in
     let K = rw s.stage-1.given.1 at k.carry_out.ensures in
     carried_undoes K s.back-2-1.given
 
 pub returns-in-NoRoom : goal.returns-in-NoRoom
 returns-in-NoRoom c =
-    let k = c.before.before.before.before.before.before in
+    let k = c in
     let a = k.args in (
       refl,
       inl (lacks a.table.now a.work.now k.carry_out.new.1.1.1.1.1.1.1.0 k.carry_out.new.1.1.1.1.1.1.0 c.table-1.given c.work-1.given
@@ -22,21 +22,21 @@ returns-in-NoRoom c =
 
 pub returns-in-Full : goal.returns-in-Full
 returns-in-Full c =
-    let k = c.before.before.before.before.before.before in
+    let k = c in
     let a = k.args in
     (refl, inr (stalled_long (rw c.in-Full.is at k.carry_out.ensures) a.work.now c.work-1.given))
 
 pub returns-in-Refused : goal.returns-in-Refused
 returns-in-Refused c =
     let s = c in
-    let k = s.before.before.before.before.before.before in
+    let k = s in
     let a = k.args in
     let e = rw s.in-Refused.is at k.carry_out.ensures in
     (undo-refused _ _ _ _ a.out.now e.0, e.1)
 
 pub returns-in-Done : goal.returns-in-Done
 returns-in-Done c =
-    let s = c.before.before.before.before.before in
-    let k = s.before.before.before.before.before.before.before in
+    let s = c in
+    let k = s in
     let a = k.args in
     tries_undo (rw s.stage-1.given.1 at k.carry_out.ensures) c.deliver_undo.result a.work.now a.out.now _ a.table.now s.back-2-1.given c.deliver_undo.ensures

@@ -55,9 +55,9 @@ shape_of-table-then-count-gt-MAX_OPERATIONS c = search rules
 
 pub returns-then-count-gt-MAX_OPERATIONS : goal.returns-then-count-gt-MAX_OPERATIONS
 returns-then-count-gt-MAX_OPERATIONS c =
-    let o = c.before.before.before.before.before.before.before.before.before.before.before.before.before.before in
+    let o = c in
     let a = o.args in
-    let k = c.before in
+    let k = c in
     let L = loaded-is _ a.tuple.now (sym k.load.ensures.0 ∙ k.in-Fields.is) in
     many_listed a.tuple.now a.list.now a.work.now a.table.now a.back.now a.base a.count a.first a.start L.are (omega arith)
 
@@ -66,25 +66,25 @@ shape_of-table-then-list-gt-MAX_LIST c = search rules
 
 pub returns-then-list-gt-MAX_LIST : goal.returns-then-list-gt-MAX_LIST
 returns-then-list-gt-MAX_LIST c =
-    let o = c.before.before.before.before.before.before.before.before.before.before.before.before.before.before.before in
+    let o = c in
     let a = o.args in
-    let k = c.before.before in
+    let k = c in
     let L = loaded-is _ a.tuple.now (sym k.load.ensures.0 ∙ k.in-Fields.is) in
     long-list a.tuple.now a.list.now a.work.now a.table.now a.back.now a.base a.count a.first a.start L.are (omega arith) (omega arith)
 
 pub overflow_sub-stage : goal.overflow_sub-stage
 overflow_sub-stage c =
-    let o = c.before.before.before.before.before.before.before.before.before.before.before.before.before.before.before in
-    let k = c.before.before in
+    let o = c in
+    let k = c in
     let L = loaded-is _ o.args.tuple.now (sym k.load.ensures.0 ∙ k.in-Fields.is) in
     let e = L.ends in
     omega arith
 
 pub run-requires : goal.run-requires
 run-requires c =
-    let o = c.before.before.before.before.before.before.before.before.before.before.before.before.before.before.before.before.before.before in
+    let o = c in
     let a = o.args in
-    let k = c.before.before.before.before.before in
+    let k = c in
     let L = loaded-is _ a.tuple.now (sym k.load.ensures.0 ∙ k.in-Fields.is) in
     begins a.tuple.now a.list.now a.work.now a.table.now a.back.now _ _ _ _ L _ (omega arith) refl (ap (λ (x : List ℕ). take k.left_of-left.result a.table.now ++ (x ++ drop (length a.table.now - k.left_of-left.result - k.left_of-left.result) (drop k.left_of-left.result a.table.now))) k.load.ensures.1) (k.left_of-left.ensures.1 (omega arith)) (omega arith) (omega arith) (omega arith)
 
@@ -93,7 +93,7 @@ shape_of-table-in-Bad c = search rules
 
 pub returns-in-Bad : goal.returns-in-Bad
 returns-in-Bad c =
-    let o = c.before.before.before.before.before.before.before.before.before.before.before.before.before in
+    let o = c in
     let a = o.args in
     bad_tuple a.tuple.now a.list.now a.work.now a.table.now a.back.now a.base a.count a.first a.start (loaded_bad _ a.tuple.now (sym c.load.ensures.0 ∙ c.in-Bad.is))
 
@@ -119,9 +119,9 @@ shape_of-back c = search rules
 
 pub returns-else-list-gt-MAX_LIST : goal.returns-else-list-gt-MAX_LIST
 returns-else-list-gt-MAX_LIST c =
-    let r = c.before.before.before.before.before.before in
-    let k = r.before.before.before.before.before.before in
-    let o = r.before.before.before.before.before.before.before.before.before.before.before.before.before.before.before.before.before.before.before in
+    let r = c in
+    let k = r in
+    let o = r in
     let a = o.args in
     let L = loaded-is _ a.tuple.now (sym k.load.ensures.0 ∙ k.in-Fields.is) in
     carries a.tuple.now a.list.now a.work.now a.table.now a.back.now _ _ _ _ L _ (omega arith) refl

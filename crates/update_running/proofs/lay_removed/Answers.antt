@@ -13,7 +13,7 @@ use Rattle.update_running.proofs.lay_removed.Goals as goal
 
 pub loop-i-preserved : goal.loop-i-preserved
 loop-i-preserved c =
-    let e = c.before.before.before in
+    let e = c in
     let l = e.loop-i in
     let a = e.args in
     let t : c.lay.new.0 ≡ set l.back (a.laid + l.i) (entry_of 0x21 a.f (get_or a.table.now (a.from + l.i) 0))

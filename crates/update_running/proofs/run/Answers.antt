@@ -13,7 +13,7 @@ use Rattle.update_running.proofs.run.Lts as lts
 use Rattle.update_running.proofs.run.Goals as goal
 
 pub loop-i-init : goal.loop-i-init
-loop-i-init c = let o = c.before.before.before.before.before in (course_begins o.requires, (refl, (refl, refl)))
+loop-i-init c = let o = c in (course_begins o.requires, (refl, (refl, refl)))
 
 pub operation_at-requires : goal.operation_at-requires
 operation_at-requires c = search rules
@@ -36,7 +36,7 @@ shape_of-back-in_default c = search rules
 pub returns-in_default : goal.returns-in_default
 returns-in_default c =
     let g = c.loop-i in
-    let o = c.before.before.before.before.before.before.before.before.before in
+    let o = c in
     let a = o.args in (
       course_bad a.base a.count a.first a.start _ a.tuple.now a.list.now g.work g.table g.back g.i g.at o.requires.few o.requires.short (omega arith) g.course g.invariant.0
           (operation_bad a.base a.list.now g.at c.operation_at.ensures c.in_default.is),
@@ -63,10 +63,10 @@ shape_of-back-in-Full c = search rules
 
 pub returns-in-Full : goal.returns-in-Full
 returns-in-Full c =
-    let k = c.before.before.before.before.before.before.before in
-    let f = k.before.before.before.before in
+    let k = c in
+    let f = k in
     let g = k.loop-i in
-    let o = k.before.before.before.before.before.before.before.before.before.before.before.before.before in
+    let o = k in
     let a = o.args in
     let d = operation-is a.base a.list.now g.at f.operation_at.ensures f.in-Is.is in
     let room : length g.work ≤ work_room = let e = g.invariant.1.0 in let h = o.requires.work in omega arith in
@@ -83,10 +83,10 @@ loop-i-smaller c = omega arith
 
 pub loop-i-preserved : goal.loop-i-preserved
 loop-i-preserved c =
-    let k = c.before.before.before.before.before.before.before in
-    let f = k.before.before.before.before in
+    let k = c in
+    let f = k in
     let g = k.loop-i in
-    let o = k.before.before.before.before.before.before.before.before.before.before.before.before.before in
+    let o = k in
     let a = o.args in
     let d = operation-is a.base a.list.now g.at f.operation_at.ensures f.in-Is.is in
     let room : length g.work ≤ work_room = let e = g.invariant.1.0 in let h = o.requires.work in omega arith in
@@ -108,6 +108,6 @@ shape_of-back c = search rules
 pub returns : goal.returns
 returns c =
     let g = c.loop-i in
-    let o = c.before.before.before.before.before.before.before.before in
+    let o = c in
     let a = o.args in
     course_finished a.base a.count a.first a.start _ a.tuple.now a.list.now g.work g.table g.back g.i g.at g.course _ o.requires.few o.requires.short (omega arith) o.requires.sources g.invariant.0 c.finished.ensures

@@ -20,8 +20,8 @@ entry_at-old-requires c =
 
 pub perform-requires : goal.perform-requires
 perform-requires c =
-    let g = c.before.before.before.before in
-    let k = g.before.before.before in
+    let g = c in
+    let k = g in
     let a = k.args in
     let o = k in
     let z = k.course-in-Going-1.given.0.0 in
@@ -30,25 +30,25 @@ perform-requires c =
 
 pub returns-in-Stopped : goal.returns-in-Stopped
 returns-in-Stopped c =
-    let o = c.before.before.before.before.before.before in
+    let o = c in
     let a = o.args in
     by_course a.tuple.now a.list.now a.work.now a.table.now a.back.now a.field a.action a.end a.i _ _ _ _ _ _ c.in-Stopped.is (refl, refl, refl, refl)
 
 pub returns-in-Stop : goal.returns-in-Stop
 returns-in-Stop c =
     let m = c in
-    let p = m.before.before.before.before.before in
-    let q = p.before.before.before.before.before in
-    let k = q.before.before.before in
+    let p = m in
+    let q = p in
+    let k = q in
     let a = k.args in
     by_course a.tuple.now a.list.now a.work.now a.table.now a.back.now a.field a.action a.end a.i _ _ _ _ _ _ k.course-in-Going-1.given.1
     (step_going a.tuple.now a.list.now a.work.now a.table.now a.back.now a.field a.action a.end a.i _ _ _ _ _ _ _ _ q.entry_at-old.ensures q.plan-plan.ensures p.perform.ensures m.in-Stop.is)
 
 pub returns-in-Full : goal.returns-in-Full
 returns-in-Full c =
-    let p = c.before.before.before.before.before in
-    let q = p.before.before.before.before.before in
-    let k = q.before.before.before in
+    let p = c in
+    let q = p in
+    let k = q in
     let a = k.args in
     by_course a.tuple.now a.list.now a.work.now a.table.now a.back.now a.field a.action a.end a.i _ _ _ _ _ _ k.course-in-Going-1.given.1
     (step_going a.tuple.now a.list.now a.work.now a.table.now a.back.now a.field a.action a.end a.i _ _ _ _ _ _ _ _ q.entry_at-old.ensures q.plan-plan.ensures p.perform.ensures c.in-Full.is)
@@ -56,9 +56,9 @@ returns-in-Full c =
 pub returns-in-Next : goal.returns-in-Next
 returns-in-Next c =
     let m = c in
-    let p = m.before.before.before.before.before in
-    let q = p.before.before.before.before.before in
-    let k = q.before.before.before in
+    let p = m in
+    let q = p in
+    let k = q in
     let a = k.args in
     by_course a.tuple.now a.list.now a.work.now a.table.now a.back.now a.field a.action a.end a.i _ _ _ _ _ _ k.course-in-Going-1.given.1
     (step_going a.tuple.now a.list.now a.work.now a.table.now a.back.now a.field a.action a.end a.i _ _ _ _ _ _ _ _ q.entry_at-old.ensures q.plan-plan.ensures p.perform.ensures m.in-Next.is)

@@ -12,7 +12,7 @@ updated-requires c = search rules
 
 pub answer_of-requires : goal.answer_of-requires
 answer_of-requires c =
-    let v = c.before.before in
+    let v = c in
     let a = c.args in
     told-few v.updated.result (update a.tuple.now a.list.now a.index-base) a.out.now v.updated.new.1.1.1.0 v.updated.ensures
 
@@ -22,7 +22,7 @@ shape_of-out c = search rules
 pub returns : goal.returns
 unfolding update_call
 returns c =
-    let v = c.before.before.before in
+    let v = c in
     let a = c.args in
     ap (λ (r : Answer). seen r v.updated.new.1.1.1.0) c.answer_of.ensures
     ∙ answers a.tuple.now a.list.now v.updated.result (update a.tuple.now a.list.now a.index-base) a.out.now v.updated.new.1.1.1.0 v.updated.ensures

@@ -41,8 +41,8 @@ shape_of-out c = search rules
 -- src/lib.rt:69:1
 pub returns : goal.returns
 returns c =
-    let u = c.before.before.before.before.before.before.before.before in
-    let o = u.before.before.before.before.before.before.before.before.before.before in
+    let u = c in
+    let o = u in
     let a = o.args in
     subst (λ (x : Call). Tells x (update a.tuple.now a.list.now a.base) a.out.now u.update_with.new.1.1.1.1.1.1.1.1.1.0) (sym c.call_of.ensures)
     (told-update a.tuple.now a.list.now a.base a.front o.requires a.out.now u.update_with.new.1.1.1.1.1.1.1.1.1.0 u.update_with.result _ u.update_with.new.1.1.1.1.1.1.1.1.0 a.work.now a.table.now u.update_with.ensures)

@@ -28,7 +28,7 @@ write_bytes-length-requires c = search rules
 
 pub loop-refusal-init : goal.loop-refusal-init
 loop-refusal-init c =
-    let o = c.before.before.before.before.before.before.before.before.before in
+    let o = c in
     let a = o.args in
     let f = first_turn a.tuple.now a.list.now a.base a.front o.requires.0 _ c.write_bytes-length.ensures (omega arith) in
     (f.0, (refl, (refl, (f.1.0, (f.1.1, (refl, (o.requires.1, o.requires.2)))))))
@@ -59,7 +59,7 @@ shape_of-out-in-NoRoom c = search rules
 
 pub returns-in-NoRoom : goal.returns-in-NoRoom
 returns-in-NoRoom c =
-    let u = c.before.before.before.before.before.before.before.before in
+    let u = c in
     let g = u.loop-refusal in
     let h = rw c.in-NoRoom.is at u.update_with.ensures in
     no_room g.table g.work g.other h.2 g.invariant.1.1.1.1.1.1.0 g.invariant.1.1.1.1.1.1.1 g.invariant.1.1.1.1.1.0
@@ -78,7 +78,7 @@ shape_of-out-in-Refused c = search rules
 
 pub returns-in-Refused : goal.returns-in-Refused
 returns-in-Refused c =
-    let u = c.before.before.before.before.before.before.before.before in
+    let u = c in
     let g = u.loop-refusal in
     let a = u.args in
     let h = rw c.in-Refused.is at u.update_with.ensures in
@@ -98,7 +98,7 @@ shape_of-out-in-Written c = search rules
 
 pub returns-in-Written : goal.returns-in-Written
 returns-in-Written c =
-    let u = c.before.before.before.before.before.before.before.before in
+    let u = c in
     let g = u.loop-refusal in
     let a = u.args in
     let h = rw c.in-Written.is at u.update_with.ensures in
@@ -112,16 +112,16 @@ slice_bounds-write_bytes-end-in-Moved c = sym c.loop-refusal.invariant.1.1.1.1.0
 
 pub slice_bounds-other-end : goal.slice_bounds-other-end
 slice_bounds-other-end c =
-    let m = c.before in
-    let u = m.before.before.before.before.before.before.before.before in
+    let m = c in
+    let u = m in
     let g = u.loop-refusal in
     let R = rw m.in-Moved.is at u.update_with.ensures in
     (rebased_room R.1).0
 
 pub slice_bounds-write_bytes-end-in-Moved-2 : goal.slice_bounds-write_bytes-end-in-Moved-2
 slice_bounds-write_bytes-end-in-Moved-2 c =
-    let m = c.before.before in
-    let u = m.before.before.before.before.before.before.before.before in
+    let m = c in
+    let u = m in
     let g = u.loop-refusal in
     let R = rw m.in-Moved.is at u.update_with.ensures in
     sym (length-take-le _ _ (rebased_room R.1).0)
@@ -131,8 +131,8 @@ write_bytes-length-requires-in-Moved c = search rules
 
 pub loop-refusal-smaller : goal.loop-refusal-smaller
 loop-refusal-smaller c =
-    let m = c.before.before.before.before in
-    let u = m.before.before.before.before.before.before.before.before in
+    let m = c in
+    let u = m in
     let g = u.loop-refusal in
     let R = rw m.in-Moved.is at u.update_with.ensures in
     let e = rebased_on R.1 g.invariant.1.1.1.1.1.1.1 in
@@ -140,8 +140,8 @@ loop-refusal-smaller c =
 
 pub loop-refusal-preserved : goal.loop-refusal-preserved
 loop-refusal-preserved c =
-    let m = c.before.before.before.before in
-    let u = m.before.before.before.before.before.before.before.before in
+    let m = c in
+    let u = m in
     let g = u.loop-refusal in
     let R = rw m.in-Moved.is at u.update_with.ensures in
     let e = rebased R.1 g.one c.write_bytes-length-in-Moved.ensures (omega arith) g.invariant.1.1.1.1.1.0 in

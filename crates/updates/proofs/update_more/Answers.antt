@@ -50,7 +50,7 @@ shape_of-out-in-NoRoom c = search rules
 
 pub returns-in-NoRoom : goal.returns-in-NoRoom
 returns-in-NoRoom c =
-    let v = c.before.before.before.before in
+    let v = c in
     let a = c.args in
     let n = rw v.in-NoRoom.is at v.update_in.ensures in
     subst (λ (x : Bytes). Told v.update_long.result (update a.tuple.now a.list.now a.base) x v.update_long.new.1.1.1.1.1.1.0) n v.update_long.ensures
