@@ -13,7 +13,7 @@ use Rattle.frame_fault.proofs.Search.{frame-first, fault_turn, clean_turn}
 use Rattle.frame_fault.proofs.compose.Given as goal
 
 abbrev pub invariant-loop-at : goal.invariant-loop-at
-invariant-loop-at l = (at ≤ length l.input) × (frames ≤ at) × (l.frames ≡ l.initial.out) × (report_from 0 frames at (drop at l.input) ≡ report_from 0 0 0 l.input)
+invariant-loop-at l = (l.at ≤ length l.input) × (l.frames ≤ l.at) × (l.out ≡ l.initial.out) × (report_from 0 l.frames l.at (drop l.at l.input) ≡ report_from 0 0 0 l.input)
 
 abbrev pub decreases-loop-at : goal.decreases-loop-at
-decreases-loop-at l = length l.input - at
+decreases-loop-at l = length l.input - l.at

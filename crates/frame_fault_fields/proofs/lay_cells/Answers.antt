@@ -17,7 +17,7 @@ loop-i-init c = (omega arith, refl, none _ _)
 pub loop-i-preserved : goal.loop-i-preserved
 unfolding cells
 loop-i-preserved c =
-    (omega arith, c.write_cell-to.auto.text ∙ c.loop-i.invariant.1, rw add-one (also c.loop-i.invariant.2 c.write_cell-to.ensures))
+    (omega arith, c.write_cell-to.auto.out ∙ c.loop-i.invariant.1, rw add-one (also c.loop-i.invariant.2 c.write_cell-to.ensures))
 
 pub returns : goal.returns
 returns c =

@@ -19,7 +19,9 @@ use Rattle.frame_fault_fields.proofs.write_dump.Goals as goal
 laid : (f : List ℕ) (place : OptionalNumber) (old new : List ℕ) (from r : ℕ) → from ≡ dump_start place → from ≤ 65536 → length old ≡ 360
     → Lays old 0 (cells f place from 80) new r → (take r new ≡ cells f place (dump_start place) 80) × (r ≤ length new)
 laid f place old new from r e h l v =
-    front (cells f place (dump_start place) 80) (cells-few f place (omega arith)) (rw e at v)
+    let k : dump_start place ≤ 65536 = omega arith in
+    let few = cells-few f place k in
+    front (cells f place (dump_start place) 80) (omega arith) (rw e at v)
 
 pub returns-then-from-gt-DUMP_LIMIT : goal.returns-then-from-gt-DUMP_LIMIT
 unfolding dump
@@ -34,11 +36,11 @@ returns c =
     let a = c.args in
     let e = c.dump_start-from.ensures in
     let h = c.if-from-gt-DUMP_LIMIT.false in
-    rw (le-leb (dump_start a.place) 65536 (omega arith), ← (laid _ _ _ _ _ _ e h (length-replicate 360 0) c.lay_cells-length.ensures).0) c.write_bytes.ensures
+    rw (le-leb (dump_start a.place) 65536 (omega arith), ← (laid _ _ _ _ _ _ e h (length-replicate {A = ℕ} 360 0) c.lay_cells-length.ensures).0) c.write_bytes.ensures
 
 pub slice_bounds-text-end : goal.slice_bounds-text-end
-slice_bounds-text-end c = (laid _ _ _ _ _ _ c.dump_start-from.ensures c.if-from-gt-DUMP_LIMIT.false (length-replicate 360 0) c.lay_cells-length.ensures).1
+slice_bounds-text-end c = (laid _ _ _ _ _ _ c.dump_start-from.ensures c.if-from-gt-DUMP_LIMIT.false (length-replicate {A = ℕ} 360 0) c.lay_cells-length.ensures).1
 
 pub slice_bounds-write_bytes-end : goal.slice_bounds-write_bytes-end
 slice_bounds-write_bytes-end c =
-    sym (length-take-le _ _ (laid _ _ _ _ _ _ c.dump_start-from.ensures c.if-from-gt-DUMP_LIMIT.false (length-replicate 360 0) c.lay_cells-length.ensures).1)
+    sym (length-take-le _ _ (laid _ _ _ _ _ _ c.dump_start-from.ensures c.if-from-gt-DUMP_LIMIT.false (length-replicate {A = ℕ} 360 0) c.lay_cells-length.ensures).1)
