@@ -2,7 +2,7 @@
 use mathlib.Core.Path.{◌≡◌, refl, sym, ap, ◌∙◌}
 use mathlib.Core.Bool.{Bool, true, false}
 use mathlib.Core.List.{[], ◌∷◌, ◌++◌, append_assoc, append-nil}
-use Prim.Native.Nat.{ℕ, zero, suc, ◌+◌, ◌-◌, ◌*◌, ◌^◌, ◌<◌, ◌≤◌}
+use Prim.Native.Nat.{ℕ, zero, suc, ◌+◌, ◌-◌, ◌^◌, ◌<◌, ◌≤◌}
 use native.Mathlib.Omega.{arith}
 use borrow.Author.Tests.{eq-eqb, ne_eqb}
 use lib.ListN.{length, take, drop, length-append}
@@ -19,7 +19,6 @@ use Rattle.frame_listing.specs.Listing.{max_input, frame_line, last_line, refuse
 use Rattle.frame_listing_fields.specs.Sync.{sync_text}
 use Rattle.frame_listing_fields.specs.Steps.{ended}
 use Rattle.frame_listing.specs.Steps.{after, most, First}
-use Rattle.frame_listing.specs.declared.Line.{Line}
 use Rattle.frame_listing_fields.proofs.Decimal.{few}
 use Rattle.frame_listing_fields.proofs.Names.{short, name-short}
 use Rattle.frame_listing.proofs.Within.{Within, frame-within}

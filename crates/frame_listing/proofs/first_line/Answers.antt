@@ -1,7 +1,6 @@
 -- The line for each answer of the reader.
 use native.Mathlib.Omega.{arith}
 use lib.ListN.{length}
-use borrow.Author.Rules.{rules}
 use Rattle.frame_listing_fields.specs.Text.{text}
 use Rattle.frame_listing.specs.Listing.{frame_line, last_line}
 use Rattle.frame_listing.proofs.Lines.{frame-first, incomplete_first, number-first, clean_first, last-first, line_first, most_of, last-short, frame-short}

@@ -1,12 +1,10 @@
 -- The lines one after the other: what stands, with what is still to come, is all.
-use mathlib.Core.Path.{◌≡◌, refl, sym, ◌∙◌}
-use Prim.Native.Nat.{◌+◌, ◌-◌, ◌*◌, ◌≤◌}
+use mathlib.Core.Path.{refl, sym, ◌∙◌}
+use Prim.Native.Nat.{◌-◌}
 use native.Mathlib.Omega.{arith}
-use lib.ListN.{length, take, drop, length-drop, length-take}
+use lib.ListN.{length, drop, length-drop, length-take}
 use lib.Seq.{take_all, length-take-le}
-use borrow.Author.Rules.{rules}
-use Rattle.frame_listing.specs.Listing.{lines}
-use Rattle.frame_listing.proofs.Standing.{Standing, start, line_turn, after_frame, most-frame, after_last, finish}
+use Rattle.frame_listing.proofs.Standing.{start, line_turn, after_frame, most-frame, after_last, finish}
 use Rattle.frame_listing.proofs.lay.Goals as goal
 
 pub returns-then-bytes-eq0 : goal.returns-then-bytes-eq0

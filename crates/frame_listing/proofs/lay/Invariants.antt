@@ -1,12 +1,9 @@
 -- The lines one after the other: what stands, with what is still to come, is all.
-use mathlib.Core.Path.{◌≡◌, refl, sym, ◌∙◌}
+use mathlib.Core.Path.{◌≡◌}
 use Prim.Native.Nat.{◌+◌, ◌-◌, ◌*◌, ◌≤◌}
-use native.Mathlib.Omega.{arith}
-use lib.ListN.{length, take, drop, length-drop, length-take}
-use lib.Seq.{take_all, length-take-le}
-use borrow.Author.Rules.{rules}
+use lib.ListN.{length, drop}
 use Rattle.frame_listing.specs.Listing.{lines}
-use Rattle.frame_listing.proofs.Standing.{Standing, start, line_turn, after_frame, most-frame, after_last, finish}
+use Rattle.frame_listing.proofs.Standing.{Standing}
 use Rattle.frame_listing.proofs.lay.Given as goal
 
 abbrev pub invariant-loop-line : goal.invariant-loop-line

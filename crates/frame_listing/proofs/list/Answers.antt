@@ -1,7 +1,5 @@
 -- Input that is too long; no room; the heading and the lines.
-use Prim.Native.Nat.{◌+◌, ◌*◌}
 use native.Mathlib.Omega.{arith}
-use borrow.Author.Rules.{rules}
 use Rattle.msgpack_writing.proofs.Put.{refused}
 use Rattle.frame_listing.specs.Listing.{heading}
 use Rattle.frame_listing.proofs.Standing.{listing-long, listing-length, headed, both, next-within}

@@ -1,6 +1,5 @@
 -- The line of a frame, piece after piece.
 use Rattle.frame_listing.proofs.Lines.{frame_parts, front}
-use borrow.Author.Rules.{rules}
 use Rattle.msgpack_writing.proofs.Put.{wrote, written, step}
 use Rattle.frame_listing.proofs.write_frame.Goals as goal
 

@@ -1,6 +1,5 @@
 -- The last line, piece after piece.
 use Rattle.frame_listing.proofs.Lines.{front}
-use borrow.Author.Rules.{rules}
 use Rattle.msgpack_writing.proofs.Put.{wrote, written, step}
 use Rattle.frame_listing.proofs.write_last.Goals as goal
 
