@@ -12,7 +12,7 @@ use Rattle.frames.specs.Held.{encoded, is_some, locate}
 use Rattle.frames.specs.Keys.{code_in, frame_at, header_table, body_items, body_table}
 use Rattle.frames.specs.Codes.{required}
 use Rattle.frames.specs.Cascade.{check, given}
-use Rattle.frames.specs.Maps.{Entry, keys, find}
+use Rattle.frames.specs.Maps.{Entry, find}
 use Rattle.frames.specs.Reading.{refuse, accept, suited, by_places}
 use Rattle.frames.specs.Writing.{refused, written, write_items, frame_write}
 use Rattle.frame_absent_keys.specs.Apart.{Apart, stops_at, maps, apart, read_by}
