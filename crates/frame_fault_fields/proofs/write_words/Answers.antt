@@ -2,7 +2,6 @@
 use mathlib.Core.Path.{refl}
 use mathlib.Core.List.{[]}
 use Rattle.msgpack_writing.proofs.Put.{nothing}
-use borrow.Author.Rules.{rules}
 use Rattle.frame_listing_fields.specs.Names.{name_in}
 use Rattle.frame_fault_fields.specs.Words.{refusals, words_of}
 use Rattle.frame_fault_fields.proofs.Words.{no_words}
