@@ -2,7 +2,6 @@
 use native.Mathlib.Omega.{arith}
 use Prim.Native.Nat.{◌^◌, ◌<◌}
 use Rattle.msgpack_meanings.specs.Meaning.{of_float32}
-use borrow.Author.Rules.{rules}
 use Rattle.msgpack_meanings.proofs.float32_meaning.Goals as goal
 
 pub overflow_cast-n : goal.overflow_cast-n

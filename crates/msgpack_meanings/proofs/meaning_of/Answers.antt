@@ -3,7 +3,6 @@ use native.Mathlib.Omega.{arith}
 use mathlib.Core.Path.{sym, ◌∙◌}
 use Rattle.msgpack_meanings.specs.Meaning.{meaning}
 use Rattle.msgpack_meanings.proofs.Whole.{whole-within, scalar_whole}
-use borrow.Author.Rules.{rules}
 use Rattle.msgpack_meanings.proofs.meaning_of.Goals as goal
 
 pub scalar_meaning-requires : goal.scalar_meaning-requires
