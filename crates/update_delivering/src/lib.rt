@@ -281,7 +281,7 @@ fn undo_length(stage: Stage) -> usize
 fn write_undo(tuple: &[u8], list: &[u8], work: &[u8], back: &[u64], laid: usize, out: &mut [u8])
     requires { Entries back.now laid × (length (plain (undo_in tuple.now list.now work.now (take laid back.now))) ≤ length out.old) }
     ensures { out.new ≡ plain (undo_in tuple.now list.now work.now (take laid back.now))
-        ++ drop (length (plain (undoIn tuple.now list.now work.now (take laid back.now)))) out.old }
+        ++ drop (length (plain (undo_in tuple.now list.now work.now (take laid back.now)))) out.old }
 {
     let at = msgpack_writing::write_array_header(out, 0, laid as u32);
     write_entries(tuple, list, work, back, laid, out, at);
@@ -388,7 +388,7 @@ pub fn undo_with(
     out: &mut [u8],
 ) -> Tried
     ensures { TriesUndo result (comes_to 0 (fields_of tuple.now) (rest_of base count 0 start list.now))
-        (takesBack (fields_of tuple.now) (rest_of base count 0 start list.now)) out.old out.new work.old table.old }
+        (takes_back (fields_of tuple.now) (rest_of base count 0 start list.now)) out.old out.new work.old table.old }
 {
     let mut back = [0u64; MAX_OPERATIONS];
     match update_running::carry_out(tuple, list, base, start, 0, count, work, table, &mut back) {
@@ -412,7 +412,7 @@ pub fn press_with(
     undo: &mut [u8],
 ) -> Pressed
     ensures { TriesPress result (comes_to 0 (fields_of tuple.now) (rest_of base count 0 start list.now))
-        (takesBack (fields_of tuple.now) (rest_of base count 0 start list.now)) out.old out.new undo.old undo.new
+        (takes_back (fields_of tuple.now) (rest_of base count 0 start list.now)) out.old out.new undo.old undo.new
         work.old table.old }
 {
     let mut back = [0u64; MAX_OPERATIONS];

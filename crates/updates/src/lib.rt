@@ -320,7 +320,7 @@ fn press_long(
 ) -> Pressed
     requires { Fronts base list.now front }
     ensures { PressToldOrLong result (press tuple.now list.now base) (undo tuple.now list.now base)
-        (cameOf tuple.now list.now base) out.old out.new back.old back.new }
+        (came_of tuple.now list.now base) out.old out.new back.old back.new }
 {
     let mut work = [0u8; WORK_ROOM];
     update_delivering::press_with(
@@ -346,7 +346,7 @@ fn press_more(
 ) -> Pressed
     requires { Fronts base list.now front }
     ensures { PressToldOrLong result (press tuple.now list.now base) (undo tuple.now list.now base)
-        (cameOf tuple.now list.now base) out.old out.new back.old back.new }
+        (came_of tuple.now list.now base) out.old out.new back.old back.new }
 {
     let mut table = [0u32; TABLE_ROOM];
     let mut work = [0u8; MAX_TUPLE];
@@ -370,7 +370,7 @@ fn press_more(
 // The press call, but for the place, and for an undo list that is too long for every work array.
 fn pressed(tuple: &[u8], list: &[u8], base: u64, out: &mut [u8], back: &mut [u8]) -> Pressed
     ensures { PressToldOrLong result (press tuple.now list.now base) (undo tuple.now list.now base)
-        (cameOf tuple.now list.now base) out.old out.new back.old back.new }
+        (came_of tuple.now list.now base) out.old out.new back.old back.new }
 {
     let front = front_of(list, base);
     if SHORT_LIST < list.len() {

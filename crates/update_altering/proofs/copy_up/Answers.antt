@@ -7,15 +7,15 @@ use lib.Seq.{paste, paste-zero}
 use Rattle.update_altering.proofs.Strings.{up_turn}
 use Rattle.update_altering.proofs.copy_up.Goals as goal
 
-pub loop-i-preserved : goal.loop-i-preserved (λ s₀ from to n i₀ s i. n - i)
+pub loop-i-preserved : goal.loop-i-preserved
 loop-i-preserved c =
-    let l = c.before.before in
+    let l = c in
     let a = l.args in
     (omega arith, (simp length-set (omega arith), up_turn a.s.now l.loop-i.s a.from a.to l.loop-i.i l.loop-i.invariant.1.1 (omega arith) (omega arith)))
 
-pub returns : goal.returns (λ s₀ from to n i₀ s i. n - i)
+pub returns : goal.returns
 returns c =
-    let l = c.before in
+    let l = c in
     let a = l.args in
     let e : l.loop-i.i ≡ a.n = omega arith in
     l.loop-i.invariant.1.1 ∙ ap (paste a.s.now a.to (drop a.from a.s.now)) e

@@ -5,21 +5,23 @@ use Rattle.update_altering.proofs.put_string.Goals as goal
 
 pub append-at_middle-requires : goal.append-at_middle-requires
 append-at_middle-requires c =
-    let o = c.before.before.before.before.before.before.before.before.before in
+    let o = c in
     let a = o.args in
-    Strings.first_asks a.tuple.now a.list.now a.work.now a.argument.now a.used a.at a.size a.from a.n a.back a.rest o.requires.0 o.requires.1.0 o.requires.1.1
-    c.write_string_header-at_front.ensures
+    let k = Strings.first_asks a.tuple.now a.list.now a.work.now a.argument.now a.used a.at a.size a.from a.n a.back a.rest o.requires.n_in_bounds o.requires.rest_in_bounds o.requires.fits
+    c.write_string_header-at_front.ensures in
+    record { used_le_to = k.0; n_in_bounds = k.1 }
 
 pub append-requires : goal.append-requires
 append-requires c =
-    let o = c.before.before.before.before.before.before.before.before.before.before.before.before.before.before.before.before.before in
+    let o = c in
     let a = o.args in
-    Strings.last_asks a.tuple.now a.list.now a.work.now a.argument.now a.used a.at a.size a.from a.n a.back a.rest o.requires.0 o.requires.1.0 o.requires.1.1
-    c.write_string_header-at_front.ensures c.append-at_middle.ensures c.write_bytes-at_back.ensures
+    let k = Strings.last_asks a.tuple.now a.list.now a.work.now a.argument.now a.used a.at a.size a.from a.n a.back a.rest o.requires.n_in_bounds o.requires.rest_in_bounds o.requires.fits
+    c.write_string_header-at_front.ensures c.append-at_middle.ensures c.write_bytes-at_back.ensures in
+    record { used_le_to = k.0; n_in_bounds = k.1 }
 
 pub returns : goal.returns
 returns c =
-    let o = c.before.before.before.before.before.before.before.before.before.before.before.before.before.before.before.before.before.before.before.before in
+    let o = c in
     let a = o.args in
-    Strings.all-written a.tuple.now a.list.now a.work.now a.argument.now a.used a.at a.size a.from a.n a.back a.rest o.requires.0 o.requires.1.0 o.requires.1.1
+    Strings.all-written a.tuple.now a.list.now a.work.now a.argument.now a.used a.at a.size a.from a.n a.back a.rest o.requires.n_in_bounds o.requires.rest_in_bounds o.requires.fits
     c.write_string_header-at_front.ensures c.append-at_middle.ensures c.write_bytes-at_back.ensures c.append.ensures

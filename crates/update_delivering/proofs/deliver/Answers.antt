@@ -15,7 +15,7 @@ write_tuple-requires c = let p = c.requires in (p, omega (arith, p.long, c.tuple
 
 pub returns-then-out-length : goal.returns-then-out-length
 returns-then-out-length c =
-    let o = c.before.before.before.before.before.before.before in (
+    let o = c in (
       too_short_lem (plain (shown o.args.tuple.now o.args.list.now o.args.work.now o.args.table.now o.args.stage)) o.args.out.now
           (omega (arith, o.requires.long, c.tuple_length-length.ensures)),
       omega arith,
@@ -23,7 +23,7 @@ returns-then-out-length c =
 
 pub returns : goal.returns
 returns c =
-    let m = c.before.before.before.before.before in
-    let o = m.before.before.before.before.before.before in
+    let m = c in
+    let o = m in
     all-written (plain (shown o.args.tuple.now o.args.list.now o.args.work.now o.args.table.now o.args.stage)) o.args.out.now
     (m.tuple_length-length.ensures ∙ o.requires.long) (omega (arith, o.requires.long, m.tuple_length-length.ensures)) c.write_tuple.ensures

@@ -8,24 +8,24 @@ use Rattle.update_delivering.proofs.gather.Goals as goal
 
 pub gather_side-a-requires : goal.gather_side-a-requires
 gather_side-a-requires c =
-    let r = c.before.before in
+    let r = c in
     let p = r.requires in
     let e = r.rear_from-last.ensures in
     (gathers_front p.0 p.1 r.rear_from-last.result e.0 e.1 e.2, p.1.front)
 
 pub gather_each-b-requires : goal.gather_each-b-requires
 gather_each-b-requires c =
-    let f = c.before.before.before.before in
-    let r = f.before.before.before in
+    let f = c in
+    let r = f in
     let p = r.requires in
     let e = r.rear_from-last.ensures in
     gathers_middle p.0 p.1 r.rear_from-last.result e.0 e.1 e.2 f.gather_side-a.ensures
 
 pub gather_side-requires : goal.gather_side-requires
 gather_side-requires c =
-    let g = c.before.before.before.before in
-    let f = g.before.before.before.before.before in
-    let r = f.before.before.before in
+    let g = c in
+    let f = g in
+    let r = f in
     let p = r.requires in
     let e = r.rear_from-last.ensures in (
       gathers_rear p.0 p.1 r.rear_from-last.result e.0 e.1 e.2 f.gather_side-a.ensures g.gather_each-b.ensures,
@@ -34,9 +34,9 @@ gather_side-requires c =
 
 pub returns : goal.returns
 returns c =
-    let g = c.before.before.before.before.before.before.before in
-    let f = g.before.before.before.before.before in
-    let r = f.before.before.before in
+    let g = c in
+    let f = g in
+    let r = f in
     let p = r.requires in
     let e = r.rear_from-last.ensures in
     written (gathered_all p.0 p.1 r.rear_from-last.result e.0 e.1 e.2 f.gather_side-a.ensures g.gather_each-b.ensures c.gather_side.ensures)

@@ -11,7 +11,7 @@ use Rattle.update_delivering.proofs.run_from.Goals as goal
 
 pub returns-then-start_of-end : goal.returns-then-start_of-end
 returns-then-start_of-end c =
-    let l = c.before.before.before.before in
+    let l = c in
     let d = l.args.entries.now in
     let i = l.loop-i.i in
     let off : start_of (get_or d i 0) ≡ l.loop-i.end → ⊥ = λ e. omega (arith, e, c.start_of.ensures) in
@@ -21,7 +21,7 @@ returns-then-start_of-end c =
 
 pub loop-i-preserved : goal.loop-i-preserved
 loop-i-preserved c =
-    let l = c.before.before.before.before.before in
+    let l = c in
     let d = l.args.entries.now in
     let i = l.loop-i.i in
     let on : start_of (get_or d i 0) ≡ l.loop-i.end = omega (arith, c.start_of.ensures) in
@@ -32,7 +32,7 @@ loop-i-preserved c =
 
 pub returns : goal.returns
 returns c =
-    let l = c.before in
+    let l = c in
     let d = l.args.entries.now in
     let h : length d ≤ l.loop-i.i = omega arith in
     let v = l.loop-i.invariant in

@@ -8,22 +8,22 @@ use Rattle.update_running.proofs.add_field.Goals as goal
 
 pub returns-then-not-fits : goal.returns-then-not-fits
 returns-then-not-fits c =
-    let k = c.before.before.before in
+    let k = c in
     let a = k.args in
-    add-refused a.stage a.table.now a.back.now a.f a.p _ _ k.length_of.ensures.0 c.before.fits2.ensures (not-true _ c.if-not-fits.true)
+    add-refused a.stage a.table.now a.back.now a.f a.p _ _ k.length_of.ensures.0 c.fits2.ensures (not-true _ c.if-not-fits.true)
 
 short : (c : After-unsigned_length) → c.unsigned_length.result ≤ 9
 short c = form_short _ _ c.unsigned_length.ensures
 
 pub returns : goal.returns
 returns c =
-    let u = c.before.before.before in
-    let d = u.before.before.before.before in
-    let y = d.before.before.before.before.before in
-    let q = y.before.before in
-    let k = q.before.before.before in
+    let u = c in
+    let d = u in
+    let y = d in
+    let q = y in
+    let k = q in
     let a = k.args in
-    add_done a.stage a.table.now a.back.now a.f a.p _ _ k.length_of.ensures.0 q.before.fits2.ensures (not-false _ q.if-not-fits.false)
+    add_done a.stage a.table.now a.back.now a.f a.p _ _ k.length_of.ensures.0 q.fits2.ensures (not-false _ q.if-not-fits.false)
     _ _ _ _ _ _ _ u.unsigned_length.ensures c.least.ensures c.least-2.ensures y.entry_of.ensures d.lay.ensures d.add-head.ensures
 
 pub overflow_add-result-3 : goal.overflow_add-result-3

@@ -11,7 +11,7 @@ short c = form_short _ _ c.unsigned_length.ensures
 
 pub overflow_sub-result-2 : goal.overflow_sub-result-2
 overflow_sub-result-2 c =
-    let g = c.before.before.before.before.before.before.before.before.before.before.before in
+    let g = c in
     let o = g in
     let a = o.args in
     omega (arith, part-sum length_of a.stage.head a.stage.fields a.f a.m a.table.now o.requires.1, g.gone_of-gone.ensures.0, o.requires.0.bytes)
@@ -21,7 +21,7 @@ overflow_add-result c = let o = c in omega (arith, o.requires.1, o.requires.0.fe
 
 pub overflow_add-result-2 : goal.overflow_add-result-2
 overflow_add-result-2 c =
-    let g = c.before.before.before.before.before.before.before.before.before.before.before.before.before.before in
+    let g = c in
     let u = g.unsigned_length.result in
     let o = g in
     let a = o.args in
@@ -36,9 +36,9 @@ overflow_sub-n c = c.requires.1
 
 pub returns : goal.returns
 returns c =
-    let r = c.before.before.before.before.before.before.before.before.before in
-    let l = r.before.before.before.before in
-    let g = l.before.before.before in
+    let r = c in
+    let l = r in
+    let g = l in
     let a = g.args in
     cut-done a.stage a.table.now a.back.now a.f a.m _ _ _ _ _ _ _ _ g.unsigned_length.ensures g.gone_of-gone.ensures c.least.ensures
     c.least-2.ensures r.remove-head.ensures l.lay_removed.ensures

@@ -13,10 +13,10 @@ use Rattle.update_running.proofs.lay_removed.Goals as goal
 
 pub loop-i-preserved : goal.loop-i-preserved
 loop-i-preserved c =
-    let e = c.before.before.before in
+    let e = c in
     let l = e.loop-i in
     let a = e.args in
-    let t : c.lay.new.0 ≡ set l.back (a.laid + l.i) (entry_of 0x21 a.f (get_or a.table.now (a.from + l.i) 0))
+    let t : c.lay.new.back ≡ set l.back (a.laid + l.i) (entry_of 0x21 a.f (get_or a.table.now (a.from + l.i) 0))
     = c.lay.ensures ∙ ap (set l.back (a.laid + l.i)) e.entry_of.ensures in (
       omega arith,
       ap length t ∙ simp length-set l.invariant.1,

@@ -9,7 +9,7 @@ use Rattle.update_running.proofs.put_field.Goals as goal
 
 pub overflow_sub-bytes : goal.overflow_sub-bytes
 overflow_sub-bytes c =
-    let o = c.before.before.before.before.before.before in
+    let o = c in
     let a = o.args in
     let h = one-sum length_of a.stage.head a.stage.fields a.f a.table.now o.requires.1 o.requires.0.inside in
     let e = c.length_of-gone.ensures.0 in
@@ -18,28 +18,28 @@ overflow_sub-bytes c =
 
 pub returns-then-not-fits : goal.returns-then-not-fits
 returns-then-not-fits c =
-    let k = c.before.before.before.before in
+    let k = c in
     let a = k.args in
     put_refused a.stage a.table.now a.back.now a.f a.p a.used _ _ _ k.length_of-gone.ensures.0 c.length_of.ensures.0
-    c.before.fits2.ensures (not-true _ c.if-not-fits.true)
+    c.fits2.ensures (not-true _ c.if-not-fits.true)
 
 short : (c : After-unsigned_length) → c.unsigned_length.result ≤ 9
 short c = form_short _ _ c.unsigned_length.ensures
 
 pub overflow_add-result-4 : goal.overflow_add-result-4
 overflow_add-result-4 c =
-    let k = c.before.before.before.before.before.before.before.before.before.before.before.before in
+    let k = c in
     omega (arith, short c.before, k.length_of-gone.ensures.1, k.requires.0.back)
 
 pub returns : goal.returns
 returns c =
-    let u = c.before.before.before.before in
-    let y = u.before.before.before.before.before in
-    let q = y.before.before in
-    let k = q.before.before.before.before in
+    let u = c in
+    let y = u in
+    let q = y in
+    let k = q in
     let a = k.args in
     put-done a.stage a.table.now a.back.now a.f a.p a.used _ _ _ k.length_of-gone.ensures.0 q.length_of.ensures.0
-    q.before.fits2.ensures (not-false _ q.if-not-fits.false) _ _ _ _ _ u.unsigned_length.ensures c.least.ensures c.least-2.ensures
+    q.fits2.ensures (not-false _ q.if-not-fits.false) _ _ _ _ _ u.unsigned_length.ensures c.least.ensures c.least-2.ensures
     y.entry_of.ensures u.lay.ensures
 
 pub overflow_add-result-2 : goal.overflow_add-result-2

@@ -9,35 +9,17 @@ use Rattle.updates.specs.Telling.{FewIn, answer_by}
 use borrow.Author.Rules.{rules}
 use Rattle.updates.proofs.answer_of.Goals as goal
 
-pub enum_known-call : goal.enum_known-call
-enum_known-call c = search rules
-
-pub enum_known-call-in-Refused-1 : goal.enum_known-call-in-Refused-1
-enum_known-call-in-Refused-1 c = search rules
-
 pub overflow_cast-i : goal.overflow_cast-i
 overflow_cast-i c =
     let f = subst FewIn c.in-Refused.is c.requires in
     omega arith
-
-pub refused-requires : goal.refused-requires
-refused-requires c = search rules
-
-pub with_place-requires : goal.with_place-requires
-with_place-requires c = search rules
-
-pub enum_told-1 : goal.enum_told-1
-enum_told-1 c = search rules
-
-pub refused-requires-in-NoRoom : goal.refused-requires-in-NoRoom
-refused-requires-in-NoRoom c = search rules
 
 pub returns-in-Written : goal.returns-in-Written
 returns-in-Written c = rw c.in-Written.is
 
 pub returns-in-Refused : goal.returns-in-Refused
 returns-in-Refused c =
-    let k = c.before.before in
+    let k = c in
     let a = k.args in
     c.with_place.ensures ∙ ap (λ (r : Answer). answer_at (spoiled_in r.number a.tuple.now a.list.now) r) c.refused.ensures ∙ ap (λ (x : Call). answer_by x a.tuple.now a.list.now) (sym k.in-Refused.is)
 

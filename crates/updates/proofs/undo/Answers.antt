@@ -8,23 +8,23 @@ use Rattle.updates.proofs.undo.Goals as goal
 pub returns-in-Written : goal.returns-in-Written
 unfolding undo_call
 returns-in-Written c =
-    let u = c.before.before.before.before in
+    let u = c in
     let a = u.args in
-    let n = c.length-1.given in
-    rw c.answer_of.ensures (answers a.tuple.now a.list.now (Written n.0.0) (undo a.tuple.now a.list.now a.index-base) a.out.now _ (rw n.1 at u.undone.ensures))
+    let n = c.in-Written in
+    rw c.answer_of.ensures (answers a.tuple.now a.list.now (Written n.length) (undo a.tuple.now a.list.now a.index-base) a.out.now _ (rw n.is at u.undone.ensures))
 
 pub returns-in-Refused : goal.returns-in-Refused
 unfolding undo_call
 returns-in-Refused c =
-    let u = c.before.before.before.before in
+    let u = c in
     let a = u.args in
-    let n = c.refusal-1.given in
-    rw c.answer_of-in-Refused.ensures (answers a.tuple.now a.list.now (Refused n.0.0 n.0.1.0) (undo a.tuple.now a.list.now a.index-base) a.out.now _ (rw n.1 at u.undone.ensures))
+    let n = c.in-Refused in
+    rw c.answer_of-in-Refused.ensures (answers a.tuple.now a.list.now (Refused n.refusal n.i) (undo a.tuple.now a.list.now a.index-base) a.out.now _ (rw n.is at u.undone.ensures))
 
 pub returns-in-NoRoom : goal.returns-in-NoRoom
 unfolding undo_call
 returns-in-NoRoom c =
-    let u = c.before.before.before.before.before in
+    let u = c in
     let a = u.args in
     let n = rw c.in-NoRoom.is at u.undone.ensures in
     rw c.answer_of-in-NoRoom.ensures (answers-long a.tuple.now a.list.now a.index-base c.judged.result (undo a.tuple.now a.list.now a.index-base) a.out.now _ n.0 n.1 c.judged.ensures)

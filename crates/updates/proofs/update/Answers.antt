@@ -7,22 +7,16 @@ use Rattle.updates.proofs.Calls.{told-few, answers}
 use borrow.Author.Rules.{rules}
 use Rattle.updates.proofs.update.Goals as goal
 
-pub updated-requires : goal.updated-requires
-updated-requires c = search rules
-
 pub answer_of-requires : goal.answer_of-requires
 answer_of-requires c =
-    let v = c.before.before in
+    let v = c in
     let a = c.args in
-    told-few v.updated.result (update a.tuple.now a.list.now a.index-base) a.out.now v.updated.new.1.1.1.0 v.updated.ensures
-
-pub shape_of-out : goal.shape_of-out
-shape_of-out c = search rules
+    told-few v.updated.result (update a.tuple.now a.list.now a.index-base) a.out.now v.updated.new.out v.updated.ensures
 
 pub returns : goal.returns
 unfolding update_call
 returns c =
-    let v = c.before.before.before in
+    let v = c in
     let a = c.args in
-    ap (λ (r : Answer). seen r v.updated.new.1.1.1.0) c.answer_of.ensures
-    ∙ answers a.tuple.now a.list.now v.updated.result (update a.tuple.now a.list.now a.index-base) a.out.now v.updated.new.1.1.1.0 v.updated.ensures
+    ap (λ (r : Answer). seen r v.updated.new.out) c.answer_of.ensures
+    ∙ answers a.tuple.now a.list.now v.updated.result (update a.tuple.now a.list.now a.index-base) a.out.now v.updated.new.out v.updated.ensures

@@ -20,15 +20,9 @@ returns-then-tuple-gt-MAX_TUPLE c =
     let a = c.args in
     long-tuple a.tuple.now a.list.now a.base a.out.now (omega arith)
 
-pub slice_bounds-write_bytes-end : goal.slice_bounds-write_bytes-end
-slice_bounds-write_bytes-end c = search rules
-
-pub write_bytes-length-requires : goal.write_bytes-length-requires
-write_bytes-length-requires c = search rules
-
 pub loop-refusal-init : goal.loop-refusal-init
 loop-refusal-init c =
-    let o = c.before.before.before.before.before.before.before.before.before in
+    let o = c in
     let a = o.args in
     let f = first_turn a.tuple.now a.list.now a.base a.front o.requires.0 _ c.write_bytes-length.ensures (omega arith) in
     (f.0, (refl, (refl, (f.1.0, (f.1.1, (refl, (o.requires.1, o.requires.2)))))))
@@ -42,97 +36,52 @@ slice_bounds-update_with-end c = sym (length-take-le _ _ (omega arith))
 pub slice_bounds-update_with-end-in-loop-refusal : goal.slice_bounds-update_with-end-in-loop-refusal
 slice_bounds-update_with-end-in-loop-refusal c = sym c.loop-refusal.invariant.1.1.1.1.1.0
 
-pub update_with-requires : goal.update_with-requires
-update_with-requires c = search rules
-
-pub enum_told-1 : goal.enum_told-1
-enum_told-1 c = search rules
-
-pub shape_of-table-in-NoRoom : goal.shape_of-table-in-NoRoom
-shape_of-table-in-NoRoom c = search rules
-
-pub shape_of-work-in-NoRoom : goal.shape_of-work-in-NoRoom
-shape_of-work-in-NoRoom c = search rules
-
-pub shape_of-out-in-NoRoom : goal.shape_of-out-in-NoRoom
-shape_of-out-in-NoRoom c = search rules
-
 pub returns-in-NoRoom : goal.returns-in-NoRoom
 returns-in-NoRoom c =
-    let u = c.before.before.before.before.before.before.before.before in
+    let u = c in
     let g = u.loop-refusal in
     let h = rw c.in-NoRoom.is at u.update_with.ensures in
     no_room g.table g.work g.other h.2 g.invariant.1.1.1.1.1.1.0 g.invariant.1.1.1.1.1.1.1 g.invariant.1.1.1.1.1.0
 
-pub enum_known-refusal : goal.enum_known-refusal
-enum_known-refusal c = search rules
-
-pub shape_of-table-in-Refused : goal.shape_of-table-in-Refused
-shape_of-table-in-Refused c = search rules
-
-pub shape_of-work-in-Refused : goal.shape_of-work-in-Refused
-shape_of-work-in-Refused c = search rules
-
-pub shape_of-out-in-Refused : goal.shape_of-out-in-Refused
-shape_of-out-in-Refused c = search rules
-
 pub returns-in-Refused : goal.returns-in-Refused
 returns-in-Refused c =
-    let u = c.before.before.before.before.before.before.before.before in
+    let u = c in
     let g = u.loop-refusal in
     let a = u.args in
     let h = rw c.in-Refused.is at u.update_with.ensures in
     (h.0 ∙ told_as a.tuple.now a.list.now a.base g.invariant.0 g.invariant.1.0, h.2)
 
-pub enum_known-n : goal.enum_known-n
-enum_known-n c = search rules
-
-pub shape_of-table-in-Written : goal.shape_of-table-in-Written
-shape_of-table-in-Written c = search rules
-
-pub shape_of-work-in-Written : goal.shape_of-work-in-Written
-shape_of-work-in-Written c = search rules
-
-pub shape_of-out-in-Written : goal.shape_of-out-in-Written
-shape_of-out-in-Written c = search rules
-
 pub returns-in-Written : goal.returns-in-Written
 returns-in-Written c =
-    let u = c.before.before.before.before.before.before.before.before in
+    let u = c in
     let g = u.loop-refusal in
     let a = u.args in
     let h = rw c.in-Written.is at u.update_with.ensures in
     h.0 ∙ told_as a.tuple.now a.list.now a.base g.invariant.0 g.invariant.1.0
-
-pub enum_known-n-in-Moved-1 : goal.enum_known-n-in-Moved-1
-enum_known-n-in-Moved-1 c = search rules
 
 pub slice_bounds-write_bytes-end-in-Moved : goal.slice_bounds-write_bytes-end-in-Moved
 slice_bounds-write_bytes-end-in-Moved c = sym c.loop-refusal.invariant.1.1.1.1.0
 
 pub slice_bounds-other-end : goal.slice_bounds-other-end
 slice_bounds-other-end c =
-    let m = c.before in
-    let u = m.before.before.before.before.before.before.before.before in
+    let m = c in
+    let u = m in
     let g = u.loop-refusal in
     let R = rw m.in-Moved.is at u.update_with.ensures in
     (rebased_room R.1).0
 
 pub slice_bounds-write_bytes-end-in-Moved-2 : goal.slice_bounds-write_bytes-end-in-Moved-2
 slice_bounds-write_bytes-end-in-Moved-2 c =
-    let m = c.before.before in
-    let u = m.before.before.before.before.before.before.before.before in
+    let m = c in
+    let u = m in
     let g = u.loop-refusal in
     let R = rw m.in-Moved.is at u.update_with.ensures in
     sym (length-take-le _ _ (rebased_room R.1).0)
 
-pub write_bytes-length-requires-in-Moved : goal.write_bytes-length-requires-in-Moved
-write_bytes-length-requires-in-Moved c = search rules
-
 pub loop-refusal-smaller : goal.loop-refusal-smaller
 loop-refusal-smaller c =
-    let m = c.before.before.before.before in
-    let u = m.before.before.before.before.before.before.before.before in
+    let m = c in
+    let u = m in
     let g = u.loop-refusal in
     let R = rw m.in-Moved.is at u.update_with.ensures in
     let e = rebased_on R.1 g.invariant.1.1.1.1.1.1.1 in
@@ -140,8 +89,8 @@ loop-refusal-smaller c =
 
 pub loop-refusal-preserved : goal.loop-refusal-preserved
 loop-refusal-preserved c =
-    let m = c.before.before.before.before in
-    let u = m.before.before.before.before.before.before.before.before in
+    let m = c in
+    let u = m in
     let g = u.loop-refusal in
     let R = rw m.in-Moved.is at u.update_with.ensures in
     let e = rebased R.1 g.one c.write_bytes-length-in-Moved.ensures (omega arith) g.invariant.1.1.1.1.1.0 in
