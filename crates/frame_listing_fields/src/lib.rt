@@ -120,8 +120,8 @@ pub fn write_kind(out: &mut [u8], at: usize, code: u64) -> usize
 
 // A sync, and the tab after it.
 pub fn write_sync(out: &mut [u8], at: usize, sync: OptionalNumber) -> usize
-    ensures { (result ≡ next at (syncText sync ++ text "\t") out.old)
-        × (out.new ≡ put at (syncText sync ++ text "\t") out.old) }
+    ensures { (result ≡ next at (sync_text sync ++ text "\t") out.old)
+        × (out.new ≡ put at (sync_text sync ++ text "\t") out.old) }
 {
     if sync.present {
         write_number(out, at, sync.value, b'\t')

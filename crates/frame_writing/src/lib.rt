@@ -113,7 +113,7 @@ fn refused(number: u32) -> Written
 // The record's frame at the front of `out`, its values copied from `bytes`: 8, 4, 9, 10, 3, 18, then the bytes.
 pub fn write_frame(frame: Frame, bytes: &[u8], out: &mut [u8]) -> Written
     ensures { ◌≡◌ {A = Call} (record { number = result.number; length = result.length; buffer = out.new })
-        (frameWriteCall frame bytes.now out.old) }
+        (frame_write_call frame bytes.now out.old) }
 {
     let needs = frame_rules::needs_of(frame.code);
     if !needs.known {

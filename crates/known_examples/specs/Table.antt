@@ -16,7 +16,7 @@ pub data Case : Type 0 where
 -- the case of the same inputs that the calls make, from index base 0 and with a buffer of 16 bytes ee
 abbrev pub answered : Case → Case
 answered (frame s due) = frame s (frame_read s)
-answered (change t l due undoDue) = change t l (update_call t l 0 room) (undo_call t l 0 room)
+answered (change t l due undo_due) = change t l (update_call t l 0 room) (undo_call t l 0 room)
 
 -- "A refusal answers its number, with length 0 and an empty record"
 abbrev pub absent : OptionalNumber

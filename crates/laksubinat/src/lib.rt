@@ -16,7 +16,7 @@ ghost use Rattle.tuples.specs.Call.{update_call, undo_call};
 ghost use Rattle.tuples.specs.Press.{press_call, GoesInAlike};
 ghost use Rattle.tuples.specs.Sequence.{Event, Demand3};
 ghost use Rattle.update_answers.specs.Seen.{seen, press_seen};
-ghost use Rattle.laksubinat.specs.Shown.{result};
+ghost use Rattle.laksubinat.specs.Shown.{result_of};
 
 use frames::{Frame, FrameAnswer};
 use msgpack_shown::ValueAnswer;
@@ -26,7 +26,7 @@ use tuples::{Answer, PressAnswer};
 // The value at the front of `bytes`, held to depth 16; nothing past its end is judged.
 #[unsafe(no_mangle)]
 pub extern "C" fn lak_value_read(bytes: &[u8]) -> ValueAnswer
-    ensures* { λ r. ⌜ r ≡ shown (alone bytes.now) ⌝ }
+    ensures { result ≡ shown (alone bytes.now) }
 {
     msgpack_shown::read_shown(bytes)
 }
@@ -34,7 +34,7 @@ pub extern "C" fn lak_value_read(bytes: &[u8]) -> ValueAnswer
 // The first frame of `bytes`; what follows it is not judged.
 #[unsafe(no_mangle)]
 pub extern "C" fn lak_frame_read(bytes: &[u8]) -> FrameAnswer
-    ensures* { λ r. ⌜ r ≡ frame_read bytes.now ⌝ }
+    ensures { result ≡ frame_read bytes.now }
 {
     frame_reading::read_frame(bytes)
 }
@@ -42,7 +42,7 @@ pub extern "C" fn lak_frame_read(bytes: &[u8]) -> FrameAnswer
 // The record's frame at the front of `out`, its values copied from `bytes`.
 #[unsafe(no_mangle)]
 pub extern "C" fn lak_frame_write(frame: Frame, bytes: &[u8], out: &mut [u8]) -> Answer
-    ensures* { λ r. ⌜ seen r out.new ≡ result (frame_write_call frame bytes.now out.old) ⌝ }
+    ensures { seen result out.new ≡ result_of (frame_write_call frame bytes.now out.old) }
 {
     let written = frame_writing::write_frame(frame, bytes, out);
     Answer {
@@ -56,7 +56,7 @@ pub extern "C" fn lak_frame_write(frame: Frame, bytes: &[u8], out: &mut [u8]) ->
 // A session over this carry buffer, or 19.
 #[unsafe(no_mangle)]
 pub extern "C" fn lak_session_open(carry: &[u8]) -> SessionOpening
-    ensures* { λ r. ⌜ r ≡ opening carry.now ⌝ }
+    ensures { result ≡ opening carry.now }
 {
     session_feeding::open(carry)
 }
@@ -64,7 +64,7 @@ pub extern "C" fn lak_session_open(carry: &[u8]) -> SessionOpening
 // A session begun anew.
 #[unsafe(no_mangle)]
 pub extern "C" fn lak_session_reset() -> Session
-    ensures* { λ r. ⌜ r ≡ fresh ⌝ }
+    ensures { result ≡ fresh }
 {
     session_feeding::reset()
 }
@@ -76,8 +76,8 @@ pub extern "C" fn lak_session_feed(
     piece: &[u8],
     carry: &mut [u8],
 ) -> SessionAnswer
-    ensures* { λ r. ⌜ (r ≡ feed_of session piece.now carry.old)
-        × (carry.new ≡ carry_of session piece.now carry.old) ⌝ }
+    ensures { (result ≡ feed_of session piece.now carry.old)
+        × (carry.new ≡ carry_of session piece.now carry.old) }
 {
     session_feeding::feed(session, piece, carry)
 }
@@ -85,7 +85,7 @@ pub extern "C" fn lak_session_feed(
 // The list's operations on the tuple; the new tuple into `out`.
 #[unsafe(no_mangle)]
 pub extern "C" fn lak_update(tuple: &[u8], list: &[u8], index_base: u64, out: &mut [u8]) -> Answer
-    ensures* { λ r. ⌜ seen r out.new ≡ update_call tuple.now list.now index_base out.old ⌝ }
+    ensures { seen result out.new ≡ update_call tuple.now list.now index_base out.old }
 {
     updates::update(tuple, list, index_base, out)
 }
@@ -93,7 +93,7 @@ pub extern "C" fn lak_update(tuple: &[u8], list: &[u8], index_base: u64, out: &m
 // What takes the list's operations on the tuple back; the undo list into `out`.
 #[unsafe(no_mangle)]
 pub extern "C" fn lak_undo(tuple: &[u8], list: &[u8], index_base: u64, out: &mut [u8]) -> Answer
-    ensures* { λ r. ⌜ seen r out.new ≡ undo_call tuple.now list.now index_base out.old ⌝ }
+    ensures { seen result out.new ≡ undo_call tuple.now list.now index_base out.old }
 {
     updates::undo(tuple, list, index_base, out)
 }
@@ -107,8 +107,8 @@ pub extern "C" fn lak_press(
     out: &mut [u8],
     back: &mut [u8],
 ) -> PressAnswer
-    ensures* { λ r. ⌜ press_seen r out.new back.new
-        ≡ press_call tuple.now list.now index_base out.old back.old ⌝ }
+    ensures { press_seen result out.new back.new
+        ≡ press_call tuple.now list.now index_base out.old back.old }
 {
     updates::press(tuple, list, index_base, out, back)
 }
@@ -116,17 +116,17 @@ pub extern "C" fn lak_press(
 // Demand 3, of `lak_update` and `lak_undo`, whose answers are `update_call` and `undo_call`: in every
 // sequence of updates and takings back, what is taken back is the plain form of what was given.
 pub fn demand_3()
-    ensures* { λ _. ⌜ ((t : Bytes) (fs : Fields) (es : List Event) → fields_of t ≡ some fs → Demand3 t fs es) ⌝ }
+    ensures { ((t : Bytes) (fs : Fields) (es : List Event) → fields_of t ≡ some fs → Demand3 t fs es) }
 {}
 
 // Of `lak_press`, whose answer is `press_call`: with room for the undo list it leaves the state that demand 3's
 // update leaves, so it answers 0 exactly where the update goes in.
 pub fn a_press_goes_in_exactly_where_the_update_does()
-    ensures* { λ _. ⌜ GoesInAlike ⌝ }
+    ensures { GoesInAlike }
 {}
 
 // Of `lak_session_feed`, whose answer is `feed_of` and whose carry buffer is `carry_of`: all ways of cutting the
 // same bytes show the frames, and the refusal, that the uncut bytes show; so any two agree (`sessions::any_two_cuttings_agree`).
 pub fn every_cutting_shows_the_same()
-    ensures* { λ _. ⌜ EveryCutting ⌝ }
+    ensures { EveryCutting }
 {}

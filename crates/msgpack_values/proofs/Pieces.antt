@@ -1,7 +1,7 @@
 -- Taking a container's values apart and putting them together. Assumes nothing.
 use mathlib.Core.Path.{◌≡◌, refl, sym, ap, ◌∙◌}
 use mathlib.Core.List.{List, ◌++◌, append_assoc}
-use Prim.Native.Nat.{ℕ, zero, suc, ◌+◌}
+use Prim.Native.Nat.{ℕ, zero, suc}
 use lib.ListN.{length, take, drop, length-append}
 use lib.Seq.{take-add, take-length, take-append_seam, drop-append_seam}
 use Rattle.msgpack_first_bytes.specs.Bytes.{Bytes}

@@ -3,8 +3,10 @@
 // back. One call does a press: record and undo list, or neither; one press is refused.
 #![tactic(auto)]
 
-use libc::STDOUT_FILENO;
 use update_parts::bytes_of;
+
+// The file descriptor of standard output.
+const STDOUT: i32 = 1;
 
 const UPDATE: u64 = 0x04;
 
@@ -19,7 +21,7 @@ enum Press {
 }
 
 fn print(text: &[u8]) {
-    io::write_all(STDOUT_FILENO, text);
+    io::write_all(STDOUT, text);
 }
 
 // A name, then the bytes in hex.
@@ -28,7 +30,7 @@ fn print_bytes(name: &[u8], bytes: &[u8]) {
     let mut i: usize = 0;
     while i < bytes.len() {
         print(b" ");
-        io::print_hex(STDOUT_FILENO, bytes[i] as u64, 2);
+        io::print_hex(STDOUT, bytes[i] as u64, 2);
         i += 1;
     }
     print(b"\n");
@@ -37,7 +39,7 @@ fn print_bytes(name: &[u8], bytes: &[u8]) {
 // Words, then a refusal's number.
 fn print_number(words: &[u8], number: u32) {
     print(words);
-    io::print_decimal(STDOUT_FILENO, number as u64);
+    io::print_decimal(STDOUT, number as u64);
 }
 
 // Why a press stays out.

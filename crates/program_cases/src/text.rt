@@ -1,10 +1,11 @@
 // Lines of text: fields of hexadecimal digits taken apart, numbers and bytes printed.
 ghost use Rattle.std.specs.Prelude.{◌<◌, ◌≤◌, length};
 
-use libc::STDOUT_FILENO;
+// The file descriptor of standard output.
+pub(crate) const STDOUT: i32 = 1;
 
 pub(crate) fn print(text: &[u8]) {
-    io::write_all(STDOUT_FILENO, text);
+    io::write_all(STDOUT, text);
 }
 
 // The text in the first n bytes of a buffer.
@@ -17,11 +18,11 @@ pub(crate) fn print_text(text: &[u8], n: usize) {
 // A tab and a number.
 pub(crate) fn print_number(n: usize) {
     print(b"\t");
-    io::print_decimal(STDOUT_FILENO, n as u64);
+    io::print_decimal(STDOUT, n as u64);
 }
 
 pub(crate) fn print_plain(n: usize) {
-    io::print_decimal(STDOUT_FILENO, n as u64);
+    io::print_decimal(STDOUT, n as u64);
 }
 
 // The place of the first `b` from `at` on, or the end.
@@ -199,7 +200,7 @@ fn print_front(s: &[u8], n: usize) {
         if 48 <= i {
             return;
         }
-        io::print_hex(STDOUT_FILENO, s[i] as u64, 2);
+        io::print_hex(STDOUT, s[i] as u64, 2);
         i += 1;
     }
 }
@@ -207,7 +208,7 @@ fn print_front(s: &[u8], n: usize) {
 // A tab and the sum of bytes.
 pub(crate) fn print_sum(s: &[u8]) {
     print(b"\t");
-    io::print_hex(STDOUT_FILENO, adler(s), 8);
+    io::print_hex(STDOUT, adler(s), 8);
 }
 
 // A lent buffer afterwards: the sum of it all, and the first of the `n` bytes written.

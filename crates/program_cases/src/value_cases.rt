@@ -1,7 +1,6 @@
 // A value read alone, and the forms of first bytes.
 use crate::frame_cases::print_optional;
-use crate::text::{print, print_number};
-use libc::STDOUT_FILENO;
+use crate::text::{STDOUT, print, print_number};
 use msgpack_first_bytes::{Form, Kind};
 use msgpack_meanings::Meaning;
 use msgpack_scalars::Int;
@@ -44,7 +43,7 @@ fn print_form(form: Form) {
 // A line for each first byte: its kind, its length bytes, and what is due by it alone.
 pub(crate) fn print_first_bytes() {
     for b in 0u8..=255u8 {
-        io::print_hex(STDOUT_FILENO, b as u64, 2);
+        io::print_hex(STDOUT, b as u64, 2);
         print(b"\t");
         print_form(msgpack_first_bytes::form_of(b));
         print(b"\n");
@@ -60,11 +59,11 @@ fn print_place(name: &[u8], start: usize, length: usize) {
 fn print_integer(z: Int) {
     match z {
         Int::FromZero(n) => {
-            io::print_decimal(STDOUT_FILENO, n);
+            io::print_decimal(STDOUT, n);
         }
         Int::BelowZero(m) => {
             print(b"-1-");
-            io::print_decimal(STDOUT_FILENO, m);
+            io::print_decimal(STDOUT, m);
         }
     }
 }
@@ -86,17 +85,17 @@ fn print_meaning(meaning: Meaning) {
         }
         Meaning::Float32(_, bits) => {
             print(b"float32\t");
-            io::print_hex(STDOUT_FILENO, bits as u64, 8);
+            io::print_hex(STDOUT, bits as u64, 8);
         }
         Meaning::Float64(_, bits) => {
             print(b"float64\t");
-            io::print_hex(STDOUT_FILENO, bits, 16);
+            io::print_hex(STDOUT, bits, 16);
         }
         Meaning::String(start, length) => print_place(b"string", start, length),
         Meaning::Bin(start, length) => print_place(b"bin", start, length),
         Meaning::Ext(kind, start, length) => {
             print(b"ext\t");
-            io::print_decimal(STDOUT_FILENO, kind as u64);
+            io::print_decimal(STDOUT, kind as u64);
             print_number(start);
             print_number(length);
         }

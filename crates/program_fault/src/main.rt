@@ -1,11 +1,12 @@
 // The fault program: the first frame on standard input that is refused, why, and the bytes around the place that spoils it.
 #![tactic(auto)]
 
-use libc::STDOUT_FILENO;
+// The file descriptor of standard output.
+const STDOUT: i32 = 1;
 
 fn print_report(input: &[u8], out: &mut [u8]) {
     let length = frame_fault::report(input, out);
-    io::write_all(STDOUT_FILENO, &out[0..length]);
+    io::write_all(STDOUT, &out[0..length]);
 }
 
 // The input has room for a byte more than is read, by which the report sees that it is too long.

@@ -1,15 +1,17 @@
 // Text and numbers printed.
-use libc::STDOUT_FILENO;
+
+// The file descriptor of standard output.
+const STDOUT: i32 = 1;
 
 pub(crate) fn print(text: &[u8]) {
-    io::write_all(STDOUT_FILENO, text);
+    io::write_all(STDOUT, text);
 }
 
 // In so many hexadecimal digits, more where the number needs them.
 pub(crate) fn print_hex(n: u16, digits: usize) {
-    io::print_hex(STDOUT_FILENO, n as u64, digits);
+    io::print_hex(STDOUT, n as u64, digits);
 }
 
 pub(crate) fn print_decimal(n: u16) {
-    io::print_decimal(STDOUT_FILENO, n as u64);
+    io::print_decimal(STDOUT, n as u64);
 }

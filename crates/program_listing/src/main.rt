@@ -1,11 +1,12 @@
 // The listing program: the frames on standard input, a line for each, and how the input ended.
 #![tactic(auto)]
 
-use libc::STDOUT_FILENO;
+// The file descriptor of standard output.
+const STDOUT: i32 = 1;
 
 fn print_listing(input: &[u8], out: &mut [u8]) {
     let length = frame_listing::list(input, out);
-    io::write_all(STDOUT_FILENO, &out[0..length]);
+    io::write_all(STDOUT, &out[0..length]);
 }
 
 // The input has room for a byte more than is listed, by which the listing sees that it is too long.

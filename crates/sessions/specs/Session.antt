@@ -95,4 +95,4 @@ carry_of s p c =
 
 -- "A frame that lies whole in the new piece is shown there; one begun earlier is shown from the carry buffer we lend."
 unfoldable pub view_of : Bool → ℕ → Bytes → Bytes → Bytes
-view_of inCarry n p c = take n (pick inCarry c p)
+view_of in_carry n p c = take n (pick in_carry c p)

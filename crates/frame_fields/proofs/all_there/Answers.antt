@@ -17,7 +17,7 @@ returns-then-not-place c =
     let l = b.loop-i in
     let a = b.args in
     sym (all-fails (λ (k : ℕ). (place_in a.starts.now a.lengths.now k).present) a.keys.now 0 l.i b.loop-i-test.true
-    (ap (λ (p : Place). p.present) (sym b.place_in-place.ensures) ∙ not-true _ c.if-not-place.true))
+    (ap (λ (p : Place). p.present) (sym b.place_in-place.ensures) ∙ (not-true _ c.if-not-place.true)))
     ∙ l.invariant.1
 
 pub loop-i-preserved : goal.loop-i-preserved
@@ -27,7 +27,7 @@ loop-i-preserved c =
     let a = b.args in (
       omega arith,
       all-goes-on (λ (k : ℕ). (place_in a.starts.now a.lengths.now k).present) a.keys.now 0 l.i b.loop-i-test.true
-          (ap (λ (p : Place). p.present) (sym b.place_in-place.ensures) ∙ not-false _ c.if-not-place.false)
+          (ap (λ (p : Place). p.present) (sym b.place_in-place.ensures) ∙ (not-false _ c.if-not-place.false))
           ∙ l.invariant.1,
     )
 

@@ -1,7 +1,6 @@
 -- One key after the other.
 use mathlib.Core.Path.{◌≡◌, refl, sym, ◌∙◌}
 use Prim.Native.Nat.{ℕ, ◌-◌, ◌≤◌}
-use borrow.Author.Tests.{not-true, not-false}
 use lib.ListN.{length, drop, drop_of_length-le}
 use Rattle.frames.specs.Held.{all, encoded, is_some, locate}
 use Rattle.frames.specs.Keys.{body_items}
@@ -15,14 +14,14 @@ returns-then-not-holds c =
     let b = c.before in
     let l = b.loop-i in
     let a = b.args in
-    sym (all-fails (λ (k : ℕ). is_some (encoded (locate (body_items a.frame a.bytes.now) k))) a.keys.now 0 l.i b.loop-i-test.true (sym b.holds.ensures ∙ not-true _ c.if-not-holds.true)) ∙ l.invariant.1
+    sym (all-fails (λ (k : ℕ). is_some (encoded (locate (body_items a.frame a.bytes.now) k))) a.keys.now 0 l.i b.loop-i-test.true (sym b.holds.ensures ∙ c.if-not-holds.true)) ∙ l.invariant.1
 
 pub loop-i-preserved : goal.loop-i-preserved
 loop-i-preserved c =
     let b = c.before in
     let l = b.loop-i in
     let a = b.args in
-    (omega arith, all-goes-on (λ (k : ℕ). is_some (encoded (locate (body_items a.frame a.bytes.now) k))) a.keys.now 0 l.i b.loop-i-test.true (sym b.holds.ensures ∙ not-false _ c.if-not-holds.false) ∙ l.invariant.1)
+    (omega arith, all-goes-on (λ (k : ℕ). is_some (encoded (locate (body_items a.frame a.bytes.now) k))) a.keys.now 0 l.i b.loop-i-test.true (sym b.holds.ensures ∙ c.if-not-holds.false) ∙ l.invariant.1)
 
 pub returns : goal.returns
 unfolding all

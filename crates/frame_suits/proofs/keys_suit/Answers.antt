@@ -5,7 +5,6 @@ use mathlib.Core.Bool.{Bool, ◌&&◌}
 use native.Mathlib.Omega.{arith}
 use native.Mathlib.Numerals.{add-one}
 use borrow.Author.Rules.{rules}
-use borrow.Author.Tests.{not-true, not-false}
 use lib.Seq.{slice, slice_empty, slice-cons}
 use mathlib.Core.List.{List}
 use Rattle.frames.specs.declared.Line.{Line}
@@ -30,7 +29,7 @@ returns-then-not-key_suits c =
     let l = k.loop-i in
     let a = k.args in
     turn a.s.now (place_in a.starts.now a.lengths.now) l.i a.to k.loop-i-test.true (omega arith) k.line_of-line.ensures
-    (sym (not-true _ c.if-not-key_suits.true) ∙ c.key_suits.ensures)
+    (sym c.if-not-key_suits.true ∙ c.key_suits.ensures)
     ∙ l.invariant.1
 
 pub loop-i-preserved : goal.loop-i-preserved
@@ -40,7 +39,7 @@ loop-i-preserved c =
     let a = k.args in (
       omega arith,
       turn a.s.now (place_in a.starts.now a.lengths.now) l.i a.to k.loop-i-test.true (omega arith) k.line_of-line.ensures
-          (sym (not-false _ c.if-not-key_suits.false) ∙ c.key_suits.ensures)
+          (sym c.if-not-key_suits.false ∙ c.key_suits.ensures)
           ∙ l.invariant.1,
     )
 

@@ -1,13 +1,14 @@
 -- An unsigned number below 128, and then a value.
 use mathlib.Core.Path.{sym, ◌∙◌}
 use borrow.Author.Rules.{rules}
+use borrow.Enum.Refused.{opened}
 use Rattle.frame_tables.proofs.Entries.{no_number, large_key, no_value, one_entry, ends_after}
 use Rattle.frame_tables.proofs.entry_at.Goals as goal
 
 pub returns-in_default : goal.returns-in_default
 returns-in_default c =
     let a = c.args in
-    no_number a.s.now a.at _ c.unsigned_at.ensures c.in_default.in_default-own.keys2
+    no_number a.s.now a.at _ c.unsigned_at.ensures (opened c.in_default.in_default-own.keys2)
 
 pub returns-then-key-gt-MAX_KEY : goal.returns-then-key-gt-MAX_KEY
 returns-then-key-gt-MAX_KEY c =

@@ -19,12 +19,12 @@ at_front c = c.integer_at.ensures ∙ unshifted (integer c.args.s.now)
 
 pub returns-in-Is : goal.returns-in-Is
 unfolding of_integer
-returns-in-Is c = rw (← (at_front c.before), c.in-Is.is)
+returns-in-Is c = rw (← (at_front (goal.at.returns-in-Is c).After-integer_at), c.in-Is.is)
 
 pub returns-in-Cut : goal.returns-in-Cut
 unfolding of_integer
-returns-in-Cut c = rw (← (at_front c.before), c.in-Cut.is)
+returns-in-Cut c = rw (← (at_front (goal.at.returns-in-Cut c).After-integer_at), c.in-Cut.is)
 
 pub returns-in-Other : goal.returns-in-Other
 unfolding of_integer
-returns-in-Other c = rw (← (at_front c.before), c.in-Other.is)
+returns-in-Other c = rw (← (at_front (goal.at.returns-in-Other c).After-integer_at), c.in-Other.is)

@@ -24,13 +24,13 @@ broken s {p} {x} e q = rw (e, q)
 
 pub meaning_of-requires : goal.meaning_of-requires
 unfolding alone alone_by spoiled_at
-meaning_of-requires c = read-front c.before ∙ c.in-Whole.is
+meaning_of-requires c = read-front (goal.at.meaning_of-requires c).After-read_value-read ∙ c.in-Whole.is
 
 pub returns-in-Whole : goal.returns-in-Whole
 unfolding alone alone_by spoiled_at
-returns-in-Whole c = rw (read-front c.before.before ∙ c.in-Whole.is, ← c.meaning_of.ensures)
+returns-in-Whole c = rw (read-front (goal.at.returns-in-Whole c).After-read_value-read ∙ c.in-Whole.is, ← c.meaning_of.ensures)
 
 pub returns-in-Broken : goal.returns-in-Broken
 unfolding alone alone_by spoiled_at
-returns-in-Broken c = broken c.args.s.now (read-front c.before.before ∙ c.in-Broken.is)
+returns-in-Broken c = broken c.args.s.now (read-front (goal.at.returns-in-Broken c).After-read_value-read ∙ c.in-Broken.is)
     (c.place_of.ensures ∙ ap place_of c.read_value-read.ensures)

@@ -18,11 +18,11 @@ ext c =
 
 pub bounds-s-from : goal.bounds-s-from
 unfolding scalar_meaning
-bounds-s-from c = let k = ext c.before in omega arith
+bounds-s-from c = let k = ext (goal.at.bounds-s-from c).In-Ext in omega arith
 
 pub overflow_sub-result-in-Ext : goal.overflow_sub-result-in-Ext
 unfolding scalar_meaning
-overflow_sub-result-in-Ext c = let k = ext c.before in omega arith
+overflow_sub-result-in-Ext c = let k = ext (goal.at.overflow_sub-result-in-Ext c).In-Ext in omega arith
 
 pub returns-in-Nil : goal.returns-in-Nil
 unfolding scalar_meaning

@@ -1,5 +1,4 @@
 -- The start of an array.
-use borrow.Author.Rules.{rules}
 use Rattle.msgpack_scalars.proofs.array_start.Goals as goal
 
 pub returns-in-Array : goal.returns-in-Array

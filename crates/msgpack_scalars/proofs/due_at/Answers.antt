@@ -6,7 +6,6 @@ use lib.ListN.{drop}
 use Rattle.msgpack_scalars.specs.Start.{scalar_of}
 use Rattle.msgpack_scalars.specs.Integer.{due_in, due}
 use Rattle.msgpack_scalars.proofs.Laws as Laws
-use borrow.Author.Rules.{rules}
 use Rattle.msgpack_scalars.proofs.due_at.Goals.{After-scalar_start}
 use Rattle.msgpack_scalars.proofs.due_at.Goals as goal
 
@@ -21,12 +20,12 @@ pub returns-then-s-at : goal.returns-then-s-at
 returns-then-s-at c = Laws.due_end _ _ _ c.if-s-at.true
 
 pub returns-in_default : goal.returns-in_default
-returns-in_default c = unfold due_in in rw (at-start c.before, c.in_default.is)
+returns-in_default c = unfold due_in in rw (at-start (goal.at.returns-in_default c).After-scalar_start, c.in_default.is)
 
 pub returns-then-s-at-2 : goal.returns-then-s-at-2
-returns-then-s-at-2 c = let d = c.before in let a = d.args in
-    rw (at-start d.before, d.in-Here.is) (Laws.due-cut a.s.now a.at _ _ c.if-s-at-2.true (omega arith))
+returns-then-s-at-2 c = let d = c in let a = d.args in
+    rw (at-start (goal.at.returns-then-s-at-2 c).After-scalar_start, d.in-Here.is) (Laws.due-cut a.s.now a.at _ _ c.if-s-at-2.true (omega arith))
 
 pub returns : goal.returns
-returns c = let d = c.before in let a = d.args in
-    rw (at-start d.before, d.in-Here.is) (Laws.due-more a.s.now a.at _ _ c.if-s-at-2.false)
+returns c = let d = c in let a = d.args in
+    rw (at-start (goal.at.returns c).After-scalar_start, d.in-Here.is) (Laws.due-more a.s.now a.at _ _ c.if-s-at-2.false)

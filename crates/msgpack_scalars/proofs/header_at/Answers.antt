@@ -5,7 +5,6 @@ use lib.ListN.{get_or}
 use Rattle.msgpack_scalars.specs.Start.{start_by, Few}
 use Rattle.msgpack_scalars.proofs.Laws.{start-few, header-start}
 use Rattle.msgpack_scalars.proofs.Short.{header_past}
-use borrow.Author.Rules.{rules}
 use Rattle.msgpack_scalars.proofs.header_at.Goals as goal
 
 pub counted_at-requires : goal.counted_at-requires

@@ -1,5 +1,4 @@
 -- An unsigned number, and else the integer of a signed form.
-use borrow.Author.Rules.{rules}
 use Rattle.msgpack_scalars.specs.Integer.{adding, integer}
 use Rattle.msgpack_scalars.proofs.Laws.{adding-shift}
 use Rattle.msgpack_scalars.proofs.integer_at.Goals as goal

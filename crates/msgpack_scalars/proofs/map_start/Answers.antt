@@ -1,5 +1,4 @@
 -- The start of a map.
-use borrow.Author.Rules.{rules}
 use Rattle.msgpack_scalars.proofs.map_start.Goals as goal
 
 pub returns-in-Map : goal.returns-in-Map

@@ -5,7 +5,6 @@ use mathlib.Core.Path.{sym, ◌∙◌}
 use lib.Seq.{get_or-drop}
 use Rattle.msgpack_scalars.specs.Integer.{natural_of}
 use Rattle.msgpack_scalars.proofs.Laws.{natural_there, natural-more}
-use borrow.Author.Rules.{rules}
 use Rattle.msgpack_scalars.proofs.natural_of.Goals as goal
 
 pub overflow_cast-result : goal.overflow_cast-result

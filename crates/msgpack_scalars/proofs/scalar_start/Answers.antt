@@ -1,5 +1,4 @@
 -- The start of a scalar of the kind asked for.
-use borrow.Author.Rules.{rules}
 use Rattle.msgpack_scalars.proofs.scalar_start.Goals as goal
 
 pub returns-then-same_kind : goal.returns-then-same_kind

@@ -7,7 +7,6 @@ use Rattle.msgpack_first_bytes.specs.FirstByte.{form_of, same_kind}
 use Rattle.msgpack_first_bytes.specs.declared.Kind.TheVariants.{Signed}
 use Rattle.msgpack_scalars.specs.Integer.{signed, signed_by}
 use Rattle.msgpack_scalars.proofs.Laws.{little, due_there}
-use borrow.Author.Rules.{rules}
 use Rattle.msgpack_scalars.proofs.signed_at.Goals.{In-More}
 use Rattle.msgpack_scalars.proofs.signed_at.Goals as goal
 
@@ -20,15 +19,15 @@ there c =
 
 pub signed_of-requires : goal.signed_of-requires
 unfolding signed signed_by
-signed_of-requires c = let k = there c in omega arith
+signed_of-requires c = let k = there (goal.at.signed_of-requires c).In-More in omega arith
 
 pub overflow_add-result : goal.overflow_add-result
 unfolding signed signed_by
-overflow_add-result c = let k = there c.before in omega arith
+overflow_add-result c = let k = there (goal.at.overflow_add-result c).In-More in omega arith
 
 pub overflow_add-result-in-More : goal.overflow_add-result-in-More
 unfolding signed signed_by
-overflow_add-result-in-More c = let k = there c.before in omega arith
+overflow_add-result-in-More c = let k = there (goal.at.overflow_add-result-in-More c).In-More in omega arith
 
 pub returns-in-More : goal.returns-in-More
 unfolding signed signed_by

@@ -8,7 +8,6 @@ use lib.ListN.{drop}
 use lib.Seq.{get_or-drop}
 use Rattle.msgpack_scalars.specs.Integer.{natural_of, signed_of}
 use Rattle.msgpack_scalars.proofs.Laws as Laws
-use borrow.Author.Rules.{rules}
 use Rattle.msgpack_scalars.proofs.signed_of.Goals.{After-sign_bit-half}
 use Rattle.msgpack_scalars.proofs.signed_of.Goals as goal
 
@@ -18,18 +17,17 @@ known : (c : After-sign_bit-half) →
     (n ≡ natural_of a.more (drop a.at a.s.now)) × ((h ≡ 2 ^ (8 * a.more - 1)) × ((n < h + h) × (0 < h))))
 known c =
     let a = c.args in
-    let n = c.n-1.given in
-    let q = c.number_at.ensures in
+    let n = c.in-Is in
     let e = c.sign_bit-half.ensures in
-    let b : n.0.0 < 2 ^ (8 * a.more) = rw n.1 at q.1 in
+    let b = n.ensures.1 in
     let d = Laws.doubled a.more (omega arith) in
     let p = pow_pos (8 * a.more - 1) in
-    (Laws.natural-more a.s.now a.at a.more n.0.0 (omega arith) (sym n.1 ∙ q.0), (e, (omega arith, omega arith)))
+    (Laws.natural-more a.s.now a.at a.more n.n (omega arith) n.ensures.0, (e, (omega arith, omega arith)))
 
 pub returns : goal.returns
 returns c =
     let a = c.args in
-    let k = known c.before in
+    let k = known (goal.at.returns c).After-sign_bit-half in
     Laws.signed_high (drop a.at a.s.now) a.more _ _ (omega arith) k.0 k.1.0 c.if-n-half.false (rw (Laws.doubled a.more (omega arith), ← k.1.0) k.1.1.0)
 
 pub overflow_sub-result : goal.overflow_sub-result
@@ -39,15 +37,15 @@ pub returns-then-more-eq0 : goal.returns-then-more-eq0
 returns-then-more-eq0 c = unfold signed_of in rw c.if-more-eq0.true (rw (get_or-drop, add-zero))
 
 pub returns-in_default : goal.returns-in_default
-returns-in_default c = let p = c.before in let a = p.args in
+returns-in_default c = let p = c in let a = p.args in
     absurd (Laws.natural_there a.s.now a.at a.more (omega arith) (omega arith) (sym c.in_default.is ∙ p.number_at.ensures.0))
 
 pub returns-then-n-half : goal.returns-then-n-half
-returns-then-n-half c = let k = known c.before in
+returns-then-n-half c = let k = known (goal.at.returns-then-n-half c).After-sign_bit-half in
     let a = c.args in Laws.signed_low _ a.more _ _ (omega arith) k.0 k.1.0 c.if-n-half.true
 
 pub overflow_sub-result-2 : goal.overflow_sub-result-2
-overflow_sub-result-2 c = let k = known c.before in omega arith
+overflow_sub-result-2 c = let k = known (goal.at.overflow_sub-result-2 c).After-sign_bit-half in omega arith
 
 pub overflow_sub-result-4 : goal.overflow_sub-result-4
-overflow_sub-result-4 c = let k = known c.before in omega arith
+overflow_sub-result-4 c = let k = known (goal.at.overflow_sub-result-4 c).After-sign_bit-half in omega arith

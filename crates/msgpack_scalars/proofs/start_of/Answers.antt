@@ -1,5 +1,4 @@
 -- The start of what is asked for.
-use borrow.Author.Rules.{rules}
 use Rattle.msgpack_scalars.proofs.start_of.Goals as goal
 
 pub returns-in-String : goal.returns-in-String

@@ -7,7 +7,6 @@ use Rattle.msgpack_first_bytes.specs.FirstByte.{form_of, same_kind}
 use Rattle.msgpack_first_bytes.specs.declared.Kind.TheVariants.{Unsigned}
 use Rattle.msgpack_scalars.specs.Integer.{unsigned, unsigned_by}
 use Rattle.msgpack_scalars.proofs.Laws.{little, due_there}
-use borrow.Author.Rules.{rules}
 use Rattle.msgpack_scalars.proofs.unsigned_by_form.Goals.{In-More}
 use Rattle.msgpack_scalars.proofs.unsigned_by_form.Goals as goal
 
@@ -20,15 +19,15 @@ there c =
 
 pub natural_of-requires : goal.natural_of-requires
 unfolding unsigned unsigned_by
-natural_of-requires c = let k = there c in omega arith
+natural_of-requires c = let k = there (goal.at.natural_of-requires c).In-More in omega arith
 
 pub overflow_add-result : goal.overflow_add-result
 unfolding unsigned unsigned_by
-overflow_add-result c = let k = there c.before in omega arith
+overflow_add-result c = let k = there (goal.at.overflow_add-result c).In-More in omega arith
 
 pub overflow_add-result-in-More : goal.overflow_add-result-in-More
 unfolding unsigned unsigned_by
-overflow_add-result-in-More c = let k = there c.before in omega arith
+overflow_add-result-in-More c = let k = there (goal.at.overflow_add-result-in-More c).In-More in omega arith
 
 pub returns-in-More : goal.returns-in-More
 unfolding unsigned unsigned_by

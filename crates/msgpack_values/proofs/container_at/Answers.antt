@@ -1,5 +1,4 @@
 -- Too deep, unused, cut short, or its values.
-use borrow.Author.Rules.{rules}
 use native.Mathlib.Omega.{arith}
 use Rattle.msgpack_values.proofs.Tokens as Tokens
 use Rattle.msgpack_values.proofs.container_at.Goals as goal

@@ -1,5 +1,4 @@
 -- Past the end, or by the table.
-use borrow.Author.Rules.{rules}
 use mathlib.Core.Path.{◌∙◌}
 use Rattle.msgpack_values.proofs.Tokens as Tokens
 use Rattle.msgpack_values.proofs.first_byte_entry.Goals as goal

@@ -1,5 +1,4 @@
 -- Each width by its bytes, one after the other.
-use borrow.Author.Rules.{rules}
 use native.Mathlib.Omega.{arith}
 use mathlib.Core.Path.{refl}
 use Rattle.msgpack_numbers.proofs.Big as Big

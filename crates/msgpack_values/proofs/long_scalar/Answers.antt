@@ -1,5 +1,4 @@
 -- A length and that many bytes: missing, short, or whole.
-use borrow.Author.Rules.{rules}
 use native.Mathlib.Omega.{arith}
 use Prim.Native.Nat.{◌+◌}
 use mathlib.Core.Path.{◌≡◌, sym, ◌∙◌}
@@ -21,7 +20,7 @@ returns-then-s-at c = let a = c.args in Laws.sized_missing a.s.now (a.at + 1) a.
 
 pub returns-then-s-from : goal.returns-then-s-from
 returns-then-s-from c = let a = c.args in
-    Laws.payload-short a.s.now (a.at + 1 + a.width) _ (omega arith) c.if-s-from.true ∙ due c.before
+    Laws.payload-short a.s.now (a.at + 1 + a.width) _ (omega arith) c.if-s-from.true ∙ due (goal.at.returns-then-s-from c).After-length_at
 
 pub returns : goal.returns
-returns c = Laws.payload-whole _ _ _ c.if-s-from.false ∙ due c.before
+returns c = Laws.payload-whole _ _ _ c.if-s-from.false ∙ due (goal.at.returns c).After-length_at

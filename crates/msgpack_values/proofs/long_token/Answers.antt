@@ -1,5 +1,4 @@
 -- A container, or a scalar by its length.
-use borrow.Author.Rules.{rules}
 use native.Mathlib.Omega.{arith}
 use Prim.Native.Nat.{◌<◌, ◌≤◌}
 use mathlib.Core.Path.{◌≡◌, sym, ◌∙◌}
@@ -15,20 +14,19 @@ module _ (c : Else-e-ge-ARRAY) where
   width : 1 ≤ length_bytes c.args.e
   width = let p = c.requires in omega arith
 
-  requires-it : (let a = c.before.before.args in (a.at < length a.s.now) × (Width (length_bytes a.e) × (fixed_payload a.e ≤ 1)))
+  requires-it : (let a = c.args in (a.at < length a.s.now) × (Width (length_bytes a.e) × (fixed_payload a.e ≤ 1)))
   requires-it =
-      let p = c.before.before.requires in
+      let p = c.requires in
       (Tokens.within _ _ _ p.0 (λ z. omega arith), (Tokens.width_of _ _ _ 0 p.0 width, (Tokens.wide _ _ _ 0 p.0 width).fixed))
 
 -- what is read is the value
 answer : (c : After-long_scalar) → (let a = c.args in c.long_scalar.result ≡ shift a.at (value a.depth (drop a.at a.s.now)))
-answer c = let k = c.before in let p = k.requires in c.long_scalar.ensures ∙ Tokens.long _ _ _ _ p.0 p.1 (omega arith)
+answer c = let p = c.requires in c.long_scalar.ensures ∙ Tokens.long _ _ _ _ p.0 p.1 (omega arith)
 
 pub returns-then-e-eq1 : goal.returns-then-e-eq1
 returns-then-e-eq1 c =
-    let m = c.before.before in
-    let p = m.requires in
-    let e = sym c.in-Whole.is ∙ answer m in
+    let p = c.requires in
+    let e = sym c.in-Whole.is ∙ answer (goal.at.returns-then-e-eq1 c).After-long_scalar in
     (e, Tokens.headed _ _ _ _ _ p.0 (omega arith) c.if-e-eq1.true e)
 
 pub container_at-requires : goal.container_at-requires
@@ -38,10 +36,10 @@ pub returns-then-e-ge-ARRAY : goal.returns-then-e-ge-ARRAY
 returns-then-e-ge-ARRAY c = c.container_at.ensures
 
 pub long_scalar-requires : goal.long_scalar-requires
-long_scalar-requires c = requires-it c
+long_scalar-requires c = requires-it (goal.at.long_scalar-requires c).Else-e-ge-ARRAY
 
 pub returns-else-e-eq1 : goal.returns-else-e-eq1
-returns-else-e-eq1 c = sym c.in-Whole.is ∙ answer c.before.before
+returns-else-e-eq1 c = sym c.in-Whole.is ∙ answer (goal.at.returns-else-e-eq1 c).After-long_scalar
 
 pub returns-in-Broken : goal.returns-in-Broken
-returns-in-Broken c = sym c.in-Broken.is ∙ answer c.before
+returns-in-Broken c = sym c.in-Broken.is ∙ answer (goal.at.returns-in-Broken c).After-long_scalar

@@ -1,9 +1,6 @@
 -- Four more at each turn. The places up to the stop fall.
-use borrow.Author.Rules.{rules}
-use borrow.Author.Tests.{not-false}
 use native.Mathlib.Omega.{arith}
-use Prim.Native.Nat.{◌+◌, ◌-◌, ◌≤◌}
-use Rattle.msgpack_values.specs.Tokens.{Ones}
+use Prim.Native.Nat.{◌+◌}
 use Rattle.msgpack_values.proofs.Tokens.{no_ones, joined}
 use Rattle.msgpack_values.proofs.past_fours.Goals as goal
 
@@ -11,7 +8,7 @@ pub loop-end-preserved : goal.loop-end-preserved
 loop-end-preserved c =
     let l = c.loop-end in
     let a = c.args in
-    (omega arith, joined a.s.now a.at l.end (l.end + 4) l.invariant.1 (c.four_ones.ensures (not-false _ c.if-not-four_ones.false)))
+    (omega arith, joined a.s.now a.at l.end (l.end + 4) l.invariant.1 (c.four_ones.ensures c.if-not-four_ones.false))
 
 pub loop-end-init : goal.loop-end-init
 loop-end-init c = let a = c.args in (c.requires.0, no_ones a.s.now a.at)

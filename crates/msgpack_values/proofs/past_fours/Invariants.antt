@@ -1,10 +1,6 @@
 -- Four more at each turn. The places up to the stop fall.
-use borrow.Author.Rules.{rules}
-use borrow.Author.Tests.{not-false}
-use native.Mathlib.Omega.{arith}
-use Prim.Native.Nat.{◌+◌, ◌-◌, ◌≤◌}
+use Prim.Native.Nat.{◌-◌, ◌≤◌}
 use Rattle.msgpack_values.specs.Tokens.{Ones}
-use Rattle.msgpack_values.proofs.Tokens.{no_ones, joined}
 use Rattle.msgpack_values.proofs.past_fours.Given as goal
 
 abbrev pub invariant-loop-end : goal.invariant-loop-end

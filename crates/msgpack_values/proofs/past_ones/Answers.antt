@@ -1,11 +1,9 @@
 -- One more at each turn. The places up to the stop fall.
-use borrow.Author.Rules.{rules}
-use borrow.Author.Tests.{eqb-true, not-false}
+use borrow.Author.Tests.{eqb-true}
 use native.Mathlib.Omega.{arith}
-use Prim.Native.Nat.{◌+◌, ◌-◌, ◌≤◌}
+use Prim.Native.Nat.{◌+◌}
 use mathlib.Core.Path.{refl, sym, ◌∙◌}
 use Rattle.msgpack_first_bytes.specs.Entry.{array_of_one}
-use Rattle.msgpack_values.specs.Tokens.{Ones}
 use Rattle.msgpack_values.proofs.Tokens.{no_ones, one, joined}
 use Rattle.msgpack_values.proofs.past_ones.Goals as goal
 
@@ -15,7 +13,7 @@ loop-end-preserved c =
     let a = c.args in (
       omega arith,
       joined a.s.now a.at l.end (l.end + 1) l.invariant.1
-          (one a.s.now l.end (l.end + 1) refl (eqb-true _ array_of_one (sym c.is_array_of_one.ensures ∙ not-false _ c.if-not-is_array_of_one.false))),
+          (one a.s.now l.end (l.end + 1) refl (eqb-true _ array_of_one (sym c.is_array_of_one.ensures ∙ c.if-not-is_array_of_one.false))),
     )
 
 pub loop-end-init : goal.loop-end-init

@@ -1,5 +1,4 @@
 -- Whole or broken.
-use borrow.Author.Rules.{rules}
 use Rattle.msgpack_values.proofs.place_of.Goals as goal
 
 pub returns-in-Whole : goal.returns-in-Whole

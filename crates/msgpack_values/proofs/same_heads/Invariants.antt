@@ -1,13 +1,10 @@
 -- The invariant: reading goes on where the run has come to; where it goes on, the next item has the same head. The items left fall.
-use borrow.Author.Rules.{rules}
-use native.Mathlib.Omega.{arith}
-use Prim.Native.Nat.{ℕ, suc, ◌+◌, ◌-◌, ◌<◌, ◌≤◌}
-use mathlib.Core.Path.{◌≡◌, refl, sym, ◌∙◌}
+use Prim.Native.Nat.{ℕ, ◌-◌, ◌<◌, ◌≤◌}
+use mathlib.Core.Path.{◌≡◌}
 use mathlib.Core.Bool.{true}
-use lib.ListN.{length, drop, get_or}
+use lib.ListN.{length, drop}
 use Rattle.msgpack_values.specs.Value.{shift, items, value}
 use Rattle.msgpack_values.specs.Tokens.{Same}
-use Rattle.msgpack_values.proofs.Laws.{items-whole}
 use Rattle.msgpack_values.proofs.same_heads.Given as goal
 
 abbrev pub invariant-loop-more : goal.invariant-loop-more

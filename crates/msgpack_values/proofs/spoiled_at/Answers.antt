@@ -1,7 +1,6 @@
 -- The place that reading tells.
 use mathlib.Core.Path.{ap, ◌∙◌}
 use Rattle.msgpack_values.specs.Spoiled.{place_of, spoiled_at}
-use borrow.Author.Rules.{rules}
 use Rattle.msgpack_values.proofs.spoiled_at.Goals as goal
 
 pub returns : goal.returns

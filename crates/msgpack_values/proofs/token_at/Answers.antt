@@ -1,5 +1,4 @@
 -- A scalar that its first byte tells, past the end, or what is inside arrays of one.
-use borrow.Author.Rules.{rules}
 use native.Mathlib.Omega.{arith}
 use mathlib.Core.Path.{◌∙◌}
 use Rattle.msgpack_values.proofs.Laws.{value_end}

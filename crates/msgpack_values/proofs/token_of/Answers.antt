@@ -1,5 +1,4 @@
 -- Whole or broken.
-use borrow.Author.Rules.{rules}
 use Rattle.msgpack_values.specs.Tokens.{token_of}
 use Rattle.msgpack_values.proofs.token_of.Goals as goal
 

@@ -1,5 +1,4 @@
 -- Cut short, or whole; the constants are what is due.
-use borrow.Author.Rules.{rules}
 use native.Mathlib.Omega.{arith}
 use Prim.Native.Nat.{ℕ, ◌+◌}
 use mathlib.Core.Path.{◌≡◌, refl}
@@ -23,13 +22,13 @@ pub returns-then-s-at : goal.returns-then-s-at
 returns-then-s-at c = let a = c.args in payload-short a.s.now (a.at + 1) a.due (omega arith) (omega arith)
 
 pub returns-in-2 : goal.returns-in-2
-returns-in-2 c = let e = c.in-2.is in whole c.before (c.args.at + 3) (omega (arith, e))
+returns-in-2 c = let e = c.in-2.is in whole (goal.at.returns-in-2 c).Else-s-at (c.args.at + 3) (omega (arith, e))
 
 pub returns-in-4 : goal.returns-in-4
-returns-in-4 c = let e = c.in-4.is in whole c.before (c.args.at + 5) (omega (arith, e))
+returns-in-4 c = let e = c.in-4.is in whole (goal.at.returns-in-4 c).Else-s-at (c.args.at + 5) (omega (arith, e))
 
 pub returns-in-8 : goal.returns-in-8
-returns-in-8 c = let e = c.in-8.is in whole c.before (c.args.at + 9) (omega (arith, e))
+returns-in-8 c = let e = c.in-8.is in whole (goal.at.returns-in-8 c).Else-s-at (c.args.at + 9) (omega (arith, e))
 
 pub returns-in_default : goal.returns-in_default
-returns-in_default c = whole c.before _ refl
+returns-in_default c = whole (goal.at.returns-in_default c).Else-s-at _ refl

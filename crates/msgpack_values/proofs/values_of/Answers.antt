@@ -1,5 +1,4 @@
 -- The fixed values, or by the count.
-use borrow.Author.Rules.{rules}
 use native.Mathlib.Omega.{arith}
 use Rattle.msgpack_values.proofs.Tokens as Tokens
 use Rattle.msgpack_values.proofs.values_of.Goals as goal

@@ -1,5 +1,4 @@
 -- `negative_head`: each return is the case of the definition that the tests on the way choose.
-use native.Mathlib.Omega.{arith}
 use borrow.Author.Tests.{lt-ltb, le-ltb}
 use Rattle.msgpack_writing.specs.Forms.{big_endian, negative_form}
 use Rattle.msgpack_writing.proofs.negative_head.Goals as goal

@@ -1,11 +1,8 @@
 -- `put_bytes` goes from the first byte to the last: what it has written, with what stands after it, is the buffer.
-use mathlib.Core.Path.{◌≡◌, refl, ◌∙◌}
+use mathlib.Core.Path.{◌≡◌}
 use mathlib.Core.List.{◌++◌}
 use Prim.Native.Nat.{◌-◌, ◌≤◌}
-use native.Mathlib.Omega.{arith}
-use lib.ListN.{length, take, drop, length-set}
-use lib.Seq.{take-length}
-use Rattle.msgpack_writing.proofs.Turns.{copy_turn}
+use lib.ListN.{length, take, drop}
 use Rattle.msgpack_writing.proofs.put_bytes.Given as goal
 
 abbrev pub invariant-loop-i : goal.invariant-loop-i

@@ -1,11 +1,9 @@
 -- `put_tagged` goes from the last byte to the first: what it still has to write, with what stands after it, stays the same.
-use mathlib.Core.Path.{◌≡◌, refl, ◌∙◌}
+use mathlib.Core.Path.{◌≡◌}
 use mathlib.Core.List.{◌++◌}
 use Prim.Native.Nat.{◌+◌, ◌≤◌}
-use native.Mathlib.Omega.{arith}
-use lib.ListN.{length, drop, length-set}
+use lib.ListN.{length, drop}
 use Rattle.msgpack_writing.specs.Forms.{big_endian}
-use Rattle.msgpack_writing.proofs.Turns.{number_turn, tag_store}
 use Rattle.msgpack_writing.proofs.put_tagged.Given as goal
 
 abbrev pub invariant-loop-i : goal.invariant-loop-i

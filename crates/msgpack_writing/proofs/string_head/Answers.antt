@@ -1,5 +1,4 @@
 -- `string_head`: each return is the case of the definition that the tests on the way choose.
-use native.Mathlib.Omega.{arith}
 use borrow.Author.Tests.{lt-ltb, le-ltb}
 use Rattle.msgpack_writing.specs.Forms.{big_endian, string_header}
 use Rattle.msgpack_writing.proofs.string_head.Goals as goal

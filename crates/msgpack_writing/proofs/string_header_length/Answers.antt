@@ -1,7 +1,6 @@
 -- `string_header_length`: a form is as long as its head says.
 use native.Mathlib.Omega.{arith}
 use Rattle.msgpack_writing.proofs.Lengths.{head-length, string-long}
-use borrow.Author.Rules.{rules}
 use Rattle.msgpack_writing.proofs.string_header_length.Goals as goal
 
 pub overflow_add-result : goal.overflow_add-result

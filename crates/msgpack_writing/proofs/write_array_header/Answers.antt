@@ -1,5 +1,4 @@
 -- `write_array_header` writes the form that its head is.
-use borrow.Author.Rules.{rules}
 use Rattle.msgpack_writing.specs.Forms.{array_header}
 use Rattle.msgpack_writing.proofs.write_array_header.Goals as goal
 

@@ -1,5 +1,4 @@
 -- `write_map_header` writes the form that its head is.
-use borrow.Author.Rules.{rules}
 use Rattle.msgpack_writing.specs.Forms.{map_header}
 use Rattle.msgpack_writing.proofs.write_map_header.Goals as goal
 

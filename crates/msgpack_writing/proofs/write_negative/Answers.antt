@@ -1,5 +1,4 @@
 -- `write_negative` writes nothing below -2^63, and else the form that its head is.
-use borrow.Author.Rules.{rules}
 use native.Mathlib.Omega.{arith}
 use Rattle.msgpack_writing.proofs.Put.{nothing}
 use Rattle.msgpack_writing.proofs.Lengths.{negative_none}

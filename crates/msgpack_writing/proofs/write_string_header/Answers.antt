@@ -1,5 +1,4 @@
 -- `write_string_header` writes the form that its head is.
-use borrow.Author.Rules.{rules}
 use Rattle.msgpack_writing.proofs.write_string_header.Goals as goal
 
 pub returns : goal.returns

@@ -1,5 +1,4 @@
 -- `write_unsigned` writes the form that its head is.
-use borrow.Author.Rules.{rules}
 use Rattle.msgpack_writing.proofs.write_unsigned.Goals as goal
 
 pub returns : goal.returns

@@ -10,25 +10,20 @@ use Rattle.session_feeding.proofs.keep.Goals as goal
 pub returns-then-held-eq0 : goal.returns-then-held-eq0
 unfolding kept
 returns-then-held-eq0 c =
-    let i = c.before in
-    rw (i.if-settled.true, eq-eqb _ 0 c.if-held-eq0.true) (nothing i.args.carry.now _ _ refl).1
+    rw (c.if-settled.true, eq-eqb _ 0 c.if-held-eq0.true) (nothing c.args.carry.now _ _ refl).1
 
 pub slice_bounds-write_bytes-end : goal.slice_bounds-write_bytes-end
 slice_bounds-write_bytes-end c =
-    let l = c.before.before in
-    let e = l.least-n.ensures in
-    sym (length-take-le _ l.args.piece.now (omega arith))
+    let e = c.least-n.ensures in
+    sym (length-take-le _ c.args.piece.now (omega arith))
 
 pub returns-then-settled : goal.returns-then-settled
 unfolding kept
 returns-then-settled c =
-    let w = c.before.before in
-    let l = w.before.before.before in
-    let i = l.before.before in
-    let a = i.args in
-    rw (i.if-settled.true, ne_eqb _ 0 i.if-held-eq0.false, ← l.above.ensures)
-    (w.write_bytes.ensures.1 ∙ ap (λ (x : Bytes). put a.held x a.carry.now) (take_least _ _ l.least-n.ensures))
+    let a = c.args in
+    rw (c.if-settled.true, ne_eqb _ 0 c.if-held-eq0.false, ← c.above.ensures)
+    (c.write_bytes.ensures.1 ∙ ap (λ (x : Bytes). put a.held x a.carry.now) (take_least _ _ c.least-n.ensures))
 
 pub returns : goal.returns
 unfolding kept
-returns c = let w = c.before.before in rw w.if-settled.false w.write_bytes-2.ensures.1
+returns c = rw c.if-settled.false c.write_bytes-2.ensures.1

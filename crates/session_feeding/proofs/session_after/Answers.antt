@@ -8,7 +8,7 @@ overflow_add-result c = let h = c.requires c.if-number-eq1.true in omega arith
 
 pub returns-then-number-eq0 : goal.returns-then-number-eq0
 unfolding session_after
-returns-then-number-eq0 c = rw (eq-eqb _ 0 c.if-number-eq0.true, c.wrapping_add_u64-offset.ensures)
+returns-then-number-eq0 c = rw (eq-eqb _ 0 c.if-number-eq0.true, c.wrapping_add_u64-offset.ensures.value)
 
 pub returns-then-number-eq1 : goal.returns-then-number-eq1
 unfolding session_after

@@ -1,24 +1,14 @@
 -- The field and the argument, as numbers from 0 up.
 use native.Mathlib.Omega.{arith}
-use Rattle.msgpack_first_bytes.specs.Bytes.{Bytes}
 use Rattle.update_places.specs.Place.{bytes_from}
 use Rattle.update_computing.proofs.Numbers as Numbers
 use borrow.Author.Rules.{rules}
-use Rattle.update_computing.proofs.bits_of.Goals.{Start}
 use Rattle.update_computing.proofs.bits_of.Goals as goal
 
--- the field
-field : Start → Bytes
-field o = bytes_from o.args.tuple.now o.args.list.now o.args.work.now o.args.at o.args.size
-
 pub returns-in_default : goal.returns-in_default
-unfolding field
 returns-in_default c =
-    let o = c.before.before.before.before.before in
-    Numbers.bits_unsuited o.args.by o.args.v (field o) c.natural_in.ensures c.in_default.is
+    Numbers.bits_unsuited c.args.by c.args.v (bytes_from c.args.tuple.now c.args.list.now c.args.work.now c.args.at c.args.size) c.natural_in.ensures c.in_default.is
 
 pub returns : goal.returns
-unfolding field
 returns c =
-    let o = c.before.before.before.before.before.before in
-    Numbers.bits_is o.args.by o.args.v (field o) c.natural_in.ensures c.in-Is.is c.combine.ensures (omega arith)
+    Numbers.bits_is c.args.by c.args.v (bytes_from c.args.tuple.now c.args.list.now c.args.work.now c.args.at c.args.size) c.natural_in.ensures c.in-Is.is c.combine.ensures (omega arith)

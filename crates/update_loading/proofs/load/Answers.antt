@@ -7,53 +7,36 @@ use Rattle.update_loading.proofs.load.Goals as goal
 
 pub returns-in_default : goal.returns-in_default
 returns-in_default c =
-    let g = c.before in
-    let a = g.args in
-    no_array a.tuple.now a.table.now g.if-tuple-gt-MAX_TUPLE.false g.count_at.ensures c.in_default.is
+    let a = c.args in
+    no_array a.tuple.now a.table.now c.if-tuple-gt-MAX_TUPLE.false c.count_at.ensures c.in_default.is
 
 pub returns-then-n-gt-MAX_FIELDS : goal.returns-then-n-gt-MAX_FIELDS
 returns-then-n-gt-MAX_FIELDS c =
-    let k = c.before in
-    let g = k.before in
-    let a = g.args in
-    many_fields a.tuple.now a.table.now g.if-tuple-gt-MAX_TUPLE.false g.count_at.ensures k.in-Is.is (omega (arith, c.if-n-gt-MAX_FIELDS.true))
+    let a = c.args in
+    many_fields a.tuple.now a.table.now c.if-tuple-gt-MAX_TUPLE.false c.count_at.ensures c.in-Is.is (omega (arith, c.if-n-gt-MAX_FIELDS.true))
 
 pub returns-then-table-n : goal.returns-then-table-n
 returns-then-table-n c =
-    let k = c.before.before in
-    let g = k.before in
-    let a = g.args in
-    no_room a.tuple.now a.table.now g.if-tuple-gt-MAX_TUPLE.false g.count_at.ensures k.in-Is.is (omega (arith, c.if-n-gt-MAX_FIELDS.false)) (omega (arith, c.if-table-n.true))
+    let a = c.args in
+    no_room a.tuple.now a.table.now c.if-tuple-gt-MAX_TUPLE.false c.count_at.ensures c.in-Is.is (omega (arith, c.if-n-gt-MAX_FIELDS.false)) (omega (arith, c.if-table-n.true))
 
 pub returns-in_default-measure : goal.returns-in_default-measure
 returns-in_default-measure c =
-    let m = c.before.before.before in
-    let i = m.before.before in
-    let k = i.before.before in
-    let g = k.before in
-    let a = g.args in
-    loaded-broken a.tuple.now a.table.now g.if-tuple-gt-MAX_TUPLE.false g.count_at.ensures k.in-Is.is (omega (arith, i.if-n-gt-MAX_FIELDS.false)) (omega (arith, i.if-table-n.false))
-    m.measure.ensures.1 (sym c.in_default-measure.is ∙ m.measure.ensures.0)
+    let a = c.args in
+    loaded-broken a.tuple.now a.table.now c.if-tuple-gt-MAX_TUPLE.false c.count_at.ensures c.in-Is.is (omega (arith, c.if-n-gt-MAX_FIELDS.false)) (omega (arith, c.if-table-n.false))
+    c.measure.ensures.1 (sym c.in_default-measure.is ∙ c.measure.ensures.0)
 
 pub returns-then-end-tuple : goal.returns-then-end-tuple
 returns-then-end-tuple c =
-    let m = c.before.before.before.before in
-    let i = m.before.before in
-    let k = i.before.before in
-    let g = k.before in
-    let a = g.args in
-    loaded-short a.tuple.now a.table.now g.if-tuple-gt-MAX_TUPLE.false g.count_at.ensures k.in-Is.is (omega (arith, i.if-n-gt-MAX_FIELDS.false)) (omega (arith, i.if-table-n.false))
-    m.measure.ensures.1 (sym c.in-Whole.is ∙ m.measure.ensures.0) (λ e. omega (arith, e))
+    let a = c.args in
+    loaded-short a.tuple.now a.table.now c.if-tuple-gt-MAX_TUPLE.false c.count_at.ensures c.in-Is.is (omega (arith, c.if-n-gt-MAX_FIELDS.false)) (omega (arith, c.if-table-n.false))
+    c.measure.ensures.1 (sym c.in-Whole.is ∙ c.measure.ensures.0) (λ e. omega (arith, e))
 
 pub returns : goal.returns
 returns c =
-    let m = c.before.before.before.before in
-    let i = m.before.before in
-    let k = i.before.before in
-    let g = k.before in
-    let a = g.args in
-    loaded-all a.tuple.now a.table.now g.if-tuple-gt-MAX_TUPLE.false g.count_at.ensures k.in-Is.is (omega (arith, i.if-n-gt-MAX_FIELDS.false)) (omega (arith, i.if-table-n.false))
-    m.measure.ensures.1 (sym c.in-Whole.is ∙ m.measure.ensures.0) (omega (arith, c.if-end-tuple.false))
+    let a = c.args in
+    loaded-all a.tuple.now a.table.now c.if-tuple-gt-MAX_TUPLE.false c.count_at.ensures c.in-Is.is (omega (arith, c.if-n-gt-MAX_FIELDS.false)) (omega (arith, c.if-table-n.false))
+    c.measure.ensures.1 (sym c.in-Whole.is ∙ c.measure.ensures.0) (omega (arith, c.if-end-tuple.false))
 
 pub returns-then-tuple-gt-MAX_TUPLE : goal.returns-then-tuple-gt-MAX_TUPLE
 returns-then-tuple-gt-MAX_TUPLE c = let a = c.args in long-tuple a.tuple.now a.table.now c.if-tuple-gt-MAX_TUPLE.true

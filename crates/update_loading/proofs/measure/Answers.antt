@@ -9,6 +9,7 @@ use Rattle.msgpack_values.proofs.Local.{value_good}
 use Rattle.tuples.specs.Limits.{field_depth}
 use Rattle.update_loading.proofs.Measures.{Sofar, begin, place_after, next_turn, next-broken, all_whole}
 use borrow.Author.Rules.{rules}
+use Rattle.update_loading.proofs.measure.Goals.{then-quick-gt0, else-quick-gt0+in-Whole}
 use Rattle.update_loading.proofs.measure.Goals as goal
 
 pub loop-i-init : goal.loop-i-init
@@ -16,24 +17,22 @@ loop-i-init c = let a = c.args in (omega arith, refl, begin (value field_depth) 
 
 pub loop-i-preserved : goal.loop-i-preserved
 loop-i-preserved c =
-    let s = c.before in
-    let l = s.loop-i in
+    let l = c.loop-i in
     let f = l.invariant in
-    ⊎_elim
-    (λ w. next_turn (value_good field_depth) f.2 (omega arith) (omega arith) f.1 (s.short_end-quick.ensures w.0.taken) w.1.ensures w.2 w.3)
-    (λ w. next_turn (value_good field_depth) f.2 (omega arith) (omega arith) f.1 (sym w.3.given.1 ∙ w.1.ensures) w.5.ensures w.6 w.7)
-    c.if-quick-gt0.branch
+    elim c.if-quick-gt0.branch [
+      then-quick-gt0 w ↦ next_turn (value_good field_depth) f.2 (omega arith) (omega arith) f.1 (c.short_end-quick.ensures w.if-quick-gt0.true) w.place_of.ensures w.table-is w.at-is
+    | else-quick-gt0+in-Whole w ↦ next_turn (value_good field_depth) f.2 (omega arith) (omega arith) f.1 (sym w.in-Whole.is ∙ w.read_value.ensures) w.place_of-in-Whole.ensures w.table-is w.at-is
+    ]
 
 pub overflow_sub-quick : goal.overflow_sub-quick
 overflow_sub-quick c = let e = place_after (value_good field_depth) c.loop-i.invariant.2 (omega arith) (c.short_end-quick.ensures c.if-quick-gt0.true) in omega arith
 
 pub returns-in-Broken : goal.returns-in-Broken
-returns-in-Broken c = let r = c.before in let l = r.before.before.before.before in next-broken (value_good field_depth) l.loop-i.invariant.2
-    (omega arith) (omega arith) (sym c.in-Broken.is ∙ r.read_value.ensures)
+returns-in-Broken c = next-broken (value_good field_depth) c.loop-i.invariant.2
+    (omega arith) (omega arith) (sym c.in-Broken.is ∙ c.read_value.ensures)
 
 pub overflow_sub-end : goal.overflow_sub-end
-overflow_sub-end c = let r = c.before in let l = r.before.before.before.before in
-    let e = place_after (value_good field_depth) l.loop-i.invariant.2 (omega arith) (sym c.in-Whole.is ∙ r.read_value.ensures) in omega arith
+overflow_sub-end c = let e = place_after (value_good field_depth) c.loop-i.invariant.2 (omega arith) (sym c.in-Whole.is ∙ c.read_value.ensures) in omega arith
 
 pub returns : goal.returns
-returns c = let l = c.before in all_whole l.loop-i.invariant.2 (omega arith) (omega arith)
+returns c = all_whole c.loop-i.invariant.2 (omega arith) (omega arith)

@@ -7,18 +7,15 @@ use Rattle.update_loading.proofs.string_end.Goals as goal
 
 pub returns-then-s-at : goal.returns-then-s-at
 returns-then-s-at c =
-    let i = c.before.before.before in
-    let a = i.args in
-    str_8_ends a.s.now a.at (omega (arith, i.if-s-at.true)) (omega arith) (omega arith) (omega arith)
+    let a = c.args in
+    str_8_ends a.s.now a.at (omega (arith, c.if-s-at.true)) (omega arith) (omega arith) (omega arith)
 
 pub returns-then-s-at-2 : goal.returns-then-s-at-2
 returns-then-s-at-2 c =
-    let k = c.before in
-    let i = k.before.before.before in
-    let a = i.args in
-    let x = k.type_inv.s (a.at + 1) in
-    let y = k.type_inv.s (a.at + 2) in
-    str_16_ends a.s.now a.at (omega (arith, i.if-s-at-2.true)) (omega arith) (omega arith) (omega arith)
+    let a = c.args in
+    let x = c.type_inv.s (a.at + 1) in
+    let y = c.type_inv.s (a.at + 2) in
+    str_16_ends a.s.now a.at (omega (arith, c.if-s-at-2.true)) (omega arith) (omega arith) (omega arith)
 
 pub returns-then-left-lt2 : goal.returns-then-left-lt2
 returns-then-left-lt2 = λ c h. absurd (omega arith)

@@ -1,28 +1,29 @@
 -- An integer, held to its bound.
 use mathlib.Core.Path.{◌≡◌}
 use borrow.Author.Tests.{le-leb, lt-leb}
+use Prim.Native.Nat.{ℕ}
 use lib.ListN.{drop}
-use Rattle.tuples.specs.Decoding.{at_least}
-use Rattle.update_parts.specs.Part.{natural_by}
+use Rattle.msgpack_first_bytes.specs.Bytes.{Bytes}
+use Rattle.tuples.specs.Decoding.{any_integer, at_least}
+use Rattle.update_parts.specs.Part.{signed_by, natural_by}
 use Rattle.update_parts.specs.declared.Signed.{Signed}
 use Rattle.update_numbers.proofs.Numbers.{on_signed, least_in, least}
 use borrow.Author.Rules.{rules}
-use Rattle.update_numbers.proofs.at_least.Goals.{After-any_integer}
 use Rattle.update_numbers.proofs.at_least.Goals as goal
 
 -- by the integer x that was read
-told : (c : After-any_integer) {x : Signed} → c.any_integer.result ≡ x
-    → (let a = c.args in on_signed (least_in a.low) x ≡ natural_by a.s.now (at_least a.low (drop a.at a.s.now)))
-told c q = let a = c.args in least a.s.now (drop a.at a.s.now) c.any_integer.ensures a.low q
+told : (l : Bytes) (at low : ℕ) {r : Signed} → r ≡ signed_by l (any_integer (drop at l)) → {x : Signed} → r ≡ x
+    → on_signed (least_in low) x ≡ natural_by l (at_least low (drop at l))
+told l at low h q = least l (drop at l) h low q
 
 pub returns-in_default : goal.returns-in_default
-returns-in_default c = told c.before c.in_default.is
+returns-in_default c = told c.args.s.now c.args.at c.args.low c.any_integer.ensures c.in_default.is
 
 pub returns-in_default-z : goal.returns-in_default-z
-returns-in_default-z c = rw c.in_default-z.is at (told c.before.before c.in-Is.is)
+returns-in_default-z c = rw c.in_default-z.is at (told c.args.s.now c.args.at c.args.low c.any_integer.ensures c.in-Is.is)
 
 pub returns-then-n-low : goal.returns-then-n-low
-returns-then-n-low c = rw (c.in-FromZero.is, lt-leb _ _ c.if-n-low.true) at (told c.before.before.before c.in-Is.is)
+returns-then-n-low c = rw (c.in-FromZero.is, lt-leb _ _ c.if-n-low.true) at (told c.args.s.now c.args.at c.args.low c.any_integer.ensures c.in-Is.is)
 
 pub returns : goal.returns
-returns c = rw (c.in-FromZero.is, le-leb _ _ c.if-n-low.false) at (told c.before.before.before c.in-Is.is)
+returns c = rw (c.in-FromZero.is, le-leb _ _ c.if-n-low.false) at (told c.args.s.now c.args.at c.args.low c.any_integer.ensures c.in-Is.is)

@@ -11,13 +11,13 @@ pub returns-then-list-gt-MAX_LIST : goal.returns-then-list-gt-MAX_LIST
 returns-then-list-gt-MAX_LIST c = let a = c.args in long-refused a.base a.list.now c.if-list-gt-MAX_LIST.true
 
 pub returns-in_default : goal.returns-in_default
-returns-in_default c = let n = c.before in let a = n.args in
-    rw (← n.count_at.ensures, c.in_default.is) at (fronted a.base a.list.now n.if-base-gt1.false n.if-list-gt-MAX_LIST.false)
+returns-in_default c = let a = c.args in
+    rw (← c.count_at.ensures, c.in_default.is) at (fronted a.base a.list.now c.if-base-gt1.false c.if-list-gt-MAX_LIST.false)
 
 pub returns-then-count-gt-MAX_OPERATIONS : goal.returns-then-count-gt-MAX_OPERATIONS
-returns-then-count-gt-MAX_OPERATIONS c = let n = c.before.before in let a = n.args in
-    rw (← n.count_at.ensures, c.in-Is.is, lt-leb _ _ c.if-count-gt-MAX_OPERATIONS.true) at (fronted a.base a.list.now n.if-base-gt1.false n.if-list-gt-MAX_LIST.false)
+returns-then-count-gt-MAX_OPERATIONS c = let a = c.args in
+    rw (← c.count_at.ensures, c.in-Is.is, lt-leb _ _ c.if-count-gt-MAX_OPERATIONS.true) at (fronted a.base a.list.now c.if-base-gt1.false c.if-list-gt-MAX_LIST.false)
 
 pub returns : goal.returns
-returns c = let n = c.before.before in let a = n.args in
-    rw (← n.count_at.ensures, c.in-Is.is, le-leb _ _ c.if-count-gt-MAX_OPERATIONS.false) at (fronted a.base a.list.now n.if-base-gt1.false n.if-list-gt-MAX_LIST.false)
+returns c = let a = c.args in
+    rw (← c.count_at.ensures, c.in-Is.is, le-leb _ _ c.if-count-gt-MAX_OPERATIONS.false) at (fronted a.base a.list.now c.if-base-gt1.false c.if-list-gt-MAX_LIST.false)

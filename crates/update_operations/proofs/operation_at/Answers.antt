@@ -4,12 +4,12 @@ use Rattle.update_operations.proofs.Opening.{operation_decoded}
 use Rattle.update_operations.proofs.operation_at.Goals as goal
 
 pub returns-in_default : goal.returns-in_default
-returns-in_default c = let o = c.before in let a = o.args in rw (← o.opening_at.ensures, c.in_default.is) at (operation_decoded a.base a.list.now a.at)
+returns-in_default c = let a = c.args in rw (← c.opening_at.ensures, c.in_default.is) at (operation_decoded a.base a.list.now a.at)
 
 pub returns-in_default-action_at : goal.returns-in_default-action_at
-returns-in_default-action_at c = let x = c.before in let o = x.before.before in let a = o.args in
-    rw (← o.opening_at.ensures, x.in-Is.is, ← x.action_at.ensures, c.in_default-action_at.is) at (operation_decoded a.base a.list.now a.at)
+returns-in_default-action_at c = let a = c.args in
+    rw (← c.opening_at.ensures, c.in-Is.is, ← c.action_at.ensures, c.in_default-action_at.is) at (operation_decoded a.base a.list.now a.at)
 
 pub returns : goal.returns
-returns c = let x = c.before.before in let o = x.before.before in let a = o.args in
-    rw (← o.opening_at.ensures, x.in-Is.is, ← x.action_at.ensures, c.in-Is-action_at.is, ← c.field_of.ensures) at (operation_decoded a.base a.list.now a.at)
+returns c = let a = c.args in
+    rw (← c.opening_at.ensures, c.in-Is.is, ← c.action_at.ensures, c.in-Is-action_at.is, ← c.field_of.ensures) at (operation_decoded a.base a.list.now a.at)

@@ -10,18 +10,17 @@ use Rattle.update_table.proofs.insert_up.Goals as goal
 
 pub loop-i-preserved : goal.loop-i-preserved
 loop-i-preserved c =
-    let l = c.before.before in
-    let a = l.args in
-    let q = l.loop-i.invariant.2 in
-    let h : a.at + l.loop-i.i < length a.table.now = omega arith in (
+    let a = c.args in
+    let q = c.loop-i.invariant.2 in
+    let h : a.at + c.loop-i.i < length a.table.now = omega arith in (
       omega arith,
       simp length-set (omega arith),
-      carry_turn a.table.now l.loop-i.table a.at l.loop-i.i a.p l.loop-i.carry q h l.loop-i.invariant.3,
-      carry_next a.table.now l.loop-i.table a.at l.loop-i.i a.p l.loop-i.carry q h,
+      carry_turn a.table.now c.loop-i.table a.at c.loop-i.i a.p c.loop-i.carry q h c.loop-i.invariant.3,
+      carry_next a.table.now c.loop-i.table a.at c.loop-i.i a.p c.loop-i.carry q h,
     )
 
 pub loop-i-init : goal.loop-i-init
 loop-i-init c = let a = c.args in (omega arith, refl, paste-zero a.table.now a.at (a.p ∷ drop a.at a.table.now), refl)
 
 pub returns : goal.returns
-returns c = let l = c.before in let e : l.loop-i.i ≡ l.args.m + 1 = omega arith in l.loop-i.invariant.2 ∙ rw e
+returns c = let e : c.loop-i.i ≡ c.args.m + 1 = omega arith in c.loop-i.invariant.2 ∙ rw e

@@ -9,12 +9,11 @@ use Rattle.update_table.proofs.move_down.Goals as goal
 
 pub loop-i-preserved : goal.loop-i-preserved
 loop-i-preserved c =
-    let l = c.before.before in
-    let a = l.args in
-    (omega arith, simp length-set (omega arith), down_turn a.table.now l.loop-i.table a.from a.to l.loop-i.i l.loop-i.invariant.2 (omega arith) (omega arith))
+    let a = c.args in
+    (omega arith, simp length-set (omega arith), down_turn a.table.now c.loop-i.table a.from a.to c.loop-i.i c.loop-i.invariant.2 (omega arith) (omega arith))
 
 pub loop-i-init : goal.loop-i-init
 loop-i-init c = (omega arith, refl, paste-zero c.args.table.now c.args.to (drop c.args.from c.args.table.now))
 
 pub returns : goal.returns
-returns c = let l = c.before in let e : l.loop-i.i ≡ l.args.n = omega arith in l.loop-i.invariant.2 ∙ rw e
+returns c = let e : c.loop-i.i ≡ c.args.n = omega arith in c.loop-i.invariant.2 ∙ rw e

@@ -1,0 +1,5 @@
+use Rattle.std.proofs.Common.{◌-◌, length, arith, rules}
+use Rattle.program_cases.proofs.text.print_front.Goals as goal
+
+pub overflow_cast-s : goal.overflow_cast-s
+overflow_cast-s c = omega (arith, c.type_inv.s c.loop-i.i)

@@ -1,0 +1,5 @@
+use Rattle.std.proofs.Common.{◌-◌, length, arith, rules}
+use Rattle.program_cases.proofs.text.print_front.Given as goal
+
+abbrev pub decreases-loop-i : goal.decreases-loop-i
+decreases-loop-i l = length l.s - l.i
