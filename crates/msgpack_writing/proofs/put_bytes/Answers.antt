@@ -6,9 +6,9 @@ use lib.Seq.{take-length}
 use Rattle.msgpack_writing.proofs.Turns.{copy_turn}
 use Rattle.msgpack_writing.proofs.put_bytes.Goals as goal
 
-pub loop-i-preserved : goal.loop-i-preserved (λ out₀ bytes i₀ out i. length bytes - i)
+pub loop-i-preserved : goal.loop-i-preserved
 loop-i-preserved c =
-    let l = c.before.before in
+    let l = c in
     let a = l.args in
     (omega arith, (simp length-set (omega arith), copy_turn a.out.now a.bytes.now l.loop-i.out l.loop-i.i (omega arith) (omega arith) l.loop-i.invariant.1.1))
 
@@ -16,4 +16,4 @@ pub loop-i-init : goal.loop-i-init
 loop-i-init c = (omega arith, (refl, refl))
 
 pub returns : goal.returns
-returns c = let l = c.before in let e : l.loop-i.i ≡ length l.args.bytes.now = omega arith in l.loop-i.invariant.1.1 ∙ rw (e, take-length)
+returns c = let l = c in let e : l.loop-i.i ≡ length l.args.bytes.now = omega arith in l.loop-i.invariant.1.1 ∙ rw (e, take-length)

@@ -6,12 +6,12 @@ use Rattle.msgpack_writing.specs.Forms.{big_endian}
 use Rattle.msgpack_writing.proofs.Turns.{number_turn, tag_store}
 use Rattle.msgpack_writing.proofs.put_tagged.Goals as goal
 
-pub loop-i-preserved : goal.loop-i-preserved (λ out₀ tag n width i₀ high₀ out i high. i)
+pub loop-i-preserved : goal.loop-i-preserved
 loop-i-preserved c =
     let l = c.loop-i in
     (omega arith, (simp length-set (omega arith), number_turn l.i l.high l.out (omega arith) (omega arith) ∙ l.invariant.1.1))
 
-pub returns : goal.returns (λ out₀ tag n width i₀ high₀ out i high. i)
+pub returns : goal.returns
 unfolding big_endian
 returns c = let l = c.loop-i in let z : l.i ≡ 0 = omega arith in tag_store l.out _ _ (omega arith) (rw z at l.invariant.1.1)
 

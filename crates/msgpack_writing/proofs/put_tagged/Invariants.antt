@@ -8,3 +8,6 @@ use Rattle.msgpack_writing.proofs.put_tagged.Given as goal
 
 abbrev pub invariant-loop-i : goal.invariant-loop-i
 invariant-loop-i l = (l.i ≤ l.width) × ((length l.out ≡ length l.initial.out) × (big_endian l.i l.high ++ drop (l.i + 1) l.out ≡ big_endian l.width l.n ++ drop (l.width + 1) l.initial.out))
+
+abbrev pub decreases-loop-i : goal.decreases-loop-i
+decreases-loop-i l = l.i
