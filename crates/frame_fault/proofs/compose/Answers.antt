@@ -28,57 +28,45 @@ within c =
 
 pub returns-then-answer-ne0 : goal.returns-then-answer-ne0
 returns-then-answer-ne0 c =
-    let w = c.before.before in
-    let i = w.before.before.before.before in
-    let r = i.before.before in
-    let l = r.before.before.before in
-    let e = length-drop l.loop-at.at l.args.input.now in
-    let v = l.loop-at.invariant in
-    let m = l.requires in
-    rw (sym v.2) (fault_turn _ _ _ v.3 v.1 r.read_frame-answer.ensures (lent l) (omega arith) i.if-answer-ne0.true r.read_frame-answer.type-inv.1.1.0.1 (omega arith) w.write_fault.ensures)
+    let e = length-drop c.loop-at.at c.args.input.now in
+    let v = c.loop-at.invariant in
+    let m = c.requires in
+    rw (sym v.2) (fault_turn _ _ _ v.3 v.1 c.read_frame-answer.ensures (lent l) (omega arith) c.if-answer-ne0.true c.read_frame-answer.type_inv.1.1.0.1 (omega arith) c.write_fault.ensures)
 
 pub loop-at-preserved : goal.loop-at-preserved
 loop-at-preserved c =
-    let i = c.before in
-    let r = i.before.before in
-    let l = r.before.before.before in
-    let s = l.args.input.now in
-    let e = length-drop l.loop-at.at s in
-    let v = l.loop-at.invariant in
+    let s = c.args.input.now in
+    let e = length-drop c.loop-at.at s in
+    let v = c.loop-at.invariant in
     let k = within r in
     let f = k.fits in
-    let z = k.least i.if-answer-ne0.false in
-    let a = r.read_frame-answer.result in (
+    let z = k.least c.if-answer-ne0.false in
+    let a = c.read_frame-answer.result in (
       omega arith,
       omega arith,
       v.2,
-      rw (drop-drop a.length l.loop-at.at s) at (sym (frame-first l.loop-at.frames l.loop-at.at (drop l.loop-at.at s) a (r.read_frame-answer.ensures ∙ ap frame_read (lent l)) (omega arith) i.if-answer-ne0.false)) ∙ v.3,
+      rw (drop-drop a.length c.loop-at.at s) at (sym (frame-first c.loop-at.frames c.loop-at.at (drop c.loop-at.at s) a (c.read_frame-answer.ensures ∙ ap frame_read (lent l)) (omega arith) c.if-answer-ne0.false)) ∙ v.3,
     )
 
 pub returns : goal.returns
 unfolding clean_line
 returns c =
-    let w = c.before.before in
-    let t = w.before.before.before.before in
-    let l = t.before in
-    let e = length-drop l.loop-at.at l.args.input.now in
-    let v = l.loop-at.invariant in
-    rw (sym v.2) (clean_turn _ _ _ v.3 v.1 (omega arith) (omega arith) w.write_counted.ensures)
+    let e = length-drop c.loop-at.at c.args.input.now in
+    let v = c.loop-at.invariant in
+    rw (sym v.2) (clean_turn _ _ _ v.3 v.1 (omega arith) (omega arith) c.write_counted.ensures)
 
 pub write_fault-requires : goal.write_fault-requires
 write_fault-requires c =
-    let r = c.before.before.before.before.before in
-    let l = r.before.before.before in
-    let s = l.args.input.now in
-    let e = length-drop l.loop-at.at s in
-    let p : r.read_frame-answer.result.place.value ≤ length (drop l.loop-at.at s) = rw (r.read_frame-answer.ensures, lent l) (frame-placed (drop l.loop-at.at s)).within in
-    omega (arith, p, e, l.loop-at.invariant.0, l.requires)
+    let s = c.args.input.now in
+    let e = length-drop c.loop-at.at s in
+    let p : c.read_frame-answer.result.place.value ≤ length (drop c.loop-at.at s) = rw (c.read_frame-answer.ensures, lent l) (frame-placed (drop c.loop-at.at s)).within in
+    omega (arith, p, e, c.loop-at.invariant.0, c.requires)
 
 pub overflow_add-at : goal.overflow_add-at
-overflow_add-at c = let k = (within c.before.before.before).fits in search rules
+overflow_add-at c = let k = (within c.before).fits in search rules
 
 pub loop-at-smaller : goal.loop-at-smaller
-loop-at-smaller c = let k = within c.before.before.before in let f = k.fits in let z = k.least c.if-answer-ne0.false in omega arith
+loop-at-smaller c = let k = within c.before in let f = k.fits in let z = k.least c.if-answer-ne0.false in omega arith
 
 pub loop-at-init : goal.loop-at-init
 loop-at-init c = (omega arith, omega arith, refl, refl)

@@ -17,12 +17,9 @@ loop-i-init c = (omega arith, refl, none _ _)
 pub loop-i-preserved : goal.loop-i-preserved
 unfolding cells
 loop-i-preserved c =
-    let w = c.before.before in
-    let l = w.before.before.before in
-    (omega arith, w.write_cell-to.auto.0 ∙ l.loop-i.invariant.1, rw add-one (also l.loop-i.invariant.2 w.write_cell-to.ensures))
+    (omega arith, c.write_cell-to.auto.text ∙ c.loop-i.invariant.1, rw add-one (also c.loop-i.invariant.2 c.write_cell-to.ensures))
 
 pub returns : goal.returns
 returns c =
-    let l = c.before in
-    let e : l.loop-i.i ≡ l.args.count = omega arith in
-    rw e at l.loop-i.invariant.2
+    let e : c.loop-i.i ≡ c.args.count = omega arith in
+    rw e at c.loop-i.invariant.2

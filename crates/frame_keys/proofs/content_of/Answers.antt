@@ -1,5 +1,4 @@
 -- A line for each key.
-use borrow.Author.Rules.{rules}
 use Rattle.frame_rules.proofs.Laws.{none_below}
 use Rattle.frame_items.specs.Content.{content_at}
 use Rattle.frame_items.proofs.Laws.{content_past}

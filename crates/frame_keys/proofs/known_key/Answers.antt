@@ -1,5 +1,4 @@
 -- The table's line, with what the record holds.
-use borrow.Author.Rules.{rules}
 use Rattle.frame_items.specs.Content.{known_key_at}
 use Rattle.frame_keys.proofs.known_key.Goals as goal
 

@@ -12,28 +12,19 @@ use Rattle.frame_writing.proofs.put_frame.Goals as goal
 
 pub put_map-b-requires : goal.put_map-b-requires
 put_map-b-requires c =
-    let w = c.before.before.before in
-    let s = w.before.before.before.before in
-    let a = s.args in
-    let t = size_turn a.frame a.bytes.now a.size s.requires.0.0 s.requires.1 w.write_tagged-a.ensures in
-    (((omega arith, omega arith), s.requires.0.1.0 ∙ ap (λ (xs : List Item). length (pairs xs)) (sym (header-run a.frame a.bytes.now))), first-room (header_form a.frame a.bytes.now) (body_form a.frame a.bytes.now) w.write_tagged-a.result refl t.room)
+    let a = c.args in
+    let t = size_turn a.frame a.bytes.now a.size c.requires.0.0 c.requires.1 c.write_tagged-a.ensures in
+    (((omega arith, omega arith), c.requires.0.1.0 ∙ ap (λ (xs : List Item). length (pairs xs)) (sym (header-run a.frame a.bytes.now))), first-room (header_form a.frame a.bytes.now) (body_form a.frame a.bytes.now) c.write_tagged-a.result refl t.room)
 
 pub put_map-requires : goal.put_map-requires
 put_map-requires c =
-    let q = c.before.before.before in
-    let w = q.before.before.before.before in
-    let s = w.before.before.before.before in
-    let a = s.args in
-    let t = size_turn a.frame a.bytes.now a.size s.requires.0.0 s.requires.1 w.write_tagged-a.ensures in
-    (((omega arith, omega arith), s.requires.0.1.1 ∙ ap (λ (xs : List Item). length (pairs xs)) (sym (body_run a.frame a.bytes.now))), (turn_on t (header_form a.frame a.bytes.now) refl q.put_map-b.ensures).room)
+    let a = c.args in
+    let t = size_turn a.frame a.bytes.now a.size c.requires.0.0 c.requires.1 c.write_tagged-a.ensures in
+    (((omega arith, omega arith), c.requires.0.1.1 ∙ ap (λ (xs : List Item). length (pairs xs)) (sym (body_run a.frame a.bytes.now))), (turn_on t (header_form a.frame a.bytes.now) refl c.put_map-b.ensures).room)
 
 pub returns : goal.returns
 returns c =
-    let p = c.before.before in
-    let q = p.before.before.before.before in
-    let w = q.before.before.before.before in
-    let s = w.before.before.before.before in
-    let a = s.args in
-    let t = size_turn a.frame a.bytes.now a.size s.requires.0.0 s.requires.1 w.write_tagged-a.ensures in
-    let u = turn_on t (header_form a.frame a.bytes.now) refl q.put_map-b.ensures in
-    (p.put_map.ensures.0 ∙ u.end, p.put_map.ensures.1 ∙ u.is)
+    let a = c.args in
+    let t = size_turn a.frame a.bytes.now a.size c.requires.0.0 c.requires.1 c.write_tagged-a.ensures in
+    let u = turn_on t (header_form a.frame a.bytes.now) refl c.put_map-b.ensures in
+    (c.put_map.ensures.0 ∙ u.end, c.put_map.ensures.1 ∙ u.is)

@@ -8,11 +8,11 @@ use Rattle.frame_writing.proofs.put_pair.Goals as goal
 
 pub put_number-requires : goal.put_number-requires
 unfolding held_of encoded pair_of
-put_number-requires c = let t = c.before in rw t.in-Number.is at t.requires
+put_number-requires c = rw c.in-Number.is at c.requires
 
 pub put_view-requires : goal.put_view-requires
 unfolding held_of encoded pair_of
-put_view-requires c = let t = c.before.before in rw (t.in-View.is, ← c.view_of.ensures) at t.requires
+put_view-requires c = rw (c.in-View.is, ← c.view_of.ensures) at c.requires
 
 pub returns-in-Absent : goal.returns-in-Absent
 unfolding held_of encoded pair_of
@@ -24,8 +24,8 @@ returns-in-Outside c = let a = c.args in nothing a.out.now a.at (pair_of a.key (
 
 pub returns-in-Number : goal.returns-in-Number
 unfolding held_of encoded pair_of
-returns-in-Number c = let p = c.before.before in rw p.in-Number.is p.put_number.ensures
+returns-in-Number c = rw c.in-Number.is c.put_number.ensures
 
 pub returns-in-View : goal.returns-in-View
 unfolding held_of encoded pair_of
-returns-in-View c = let p = c.before.before in rw (p.in-View.is, ← p.view_of.ensures) p.put_view.ensures
+returns-in-View c = rw (c.in-View.is, ← c.view_of.ensures) c.put_view.ensures

@@ -14,17 +14,15 @@ use Rattle.frame_writing.proofs.put_pairs.Goals as goal
 
 pub put_pair-a-requires : goal.put_pair-a-requires
 put_pair-a-requires c =
-    let k = c.before in
-    let l = k.loop-i in
-    let a = k.args in
-    first-room (pair_of k.known_key-known.result.key (encoded (held_of a.bytes.now k.known_key-known.result.content))) _ l.a (pair-first a.bytes.now k.known_key-known.result (run a.frame a.bytes.now l.i a.to k.known_key-known.ensures k.loop-i-test.true (omega arith))) l.invariant.1.room
+    let l = c.loop-i in
+    let a = c.args in
+    first-room (pair_of c.known_key-known.result.key (encoded (held_of a.bytes.now c.known_key-known.result.content))) _ l.a (pair-first a.bytes.now c.known_key-known.result (run a.frame a.bytes.now l.i a.to c.known_key-known.ensures c.loop-i-test.true (omega arith))) l.invariant.1.room
 
 pub loop-i-preserved : goal.loop-i-preserved
 loop-i-preserved c =
-    let k = c.before.before.before.before in
-    let l = k.loop-i in
-    let a = k.args in
-    (omega arith, turn_on l.invariant.1 (pair_of k.known_key-known.result.key (encoded (held_of a.bytes.now k.known_key-known.result.content))) (pair-first a.bytes.now k.known_key-known.result (run a.frame a.bytes.now l.i a.to k.known_key-known.ensures k.loop-i-test.true (omega arith))) c.put_pair-a.ensures)
+    let l = c.loop-i in
+    let a = c.args in
+    (omega arith, turn_on l.invariant.1 (pair_of c.known_key-known.result.key (encoded (held_of a.bytes.now c.known_key-known.result.content))) (pair-first a.bytes.now c.known_key-known.result (run a.frame a.bytes.now l.i a.to c.known_key-known.ensures c.loop-i-test.true (omega arith))) c.put_pair-a.ensures)
 
 pub returns : goal.returns
 unfolding pair_bytes pairs flat joined

@@ -8,7 +8,5 @@ use Rattle.frame_writing.proofs.put_view.Goals as goal
 pub returns : goal.returns
 unfolding big_endian
 returns c =
-    let w = c.before.before in
-    let t = w.before.before.before.before in
-    let a = t.args in
-    written (step a.out.now a.at (a.key ∷ []) t.write_tagged-a.ensures t.requires (λ h. wrote _ _ _ w.write_bytes.ensures h))
+    let a = c.args in
+    written (step a.out.now a.at (a.key ∷ []) c.write_tagged-a.ensures c.requires (λ h. wrote _ _ _ c.write_bytes.ensures h))
