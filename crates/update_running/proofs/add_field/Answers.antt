@@ -1,7 +1,5 @@
 use Prim.Native.Nat.{◌≤◌}
 use native.Mathlib.Omega.{arith}
-use borrow.Author.Rules.{rules}
-use borrow.Author.Tests.{not-true, not-false}
 use Rattle.update_running.proofs.Entries.{form_short, add-refused, add_done}
 use Rattle.update_running.proofs.add_field.Goals.{After-unsigned_length}
 use Rattle.update_running.proofs.add_field.Goals as goal

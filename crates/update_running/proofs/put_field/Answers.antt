@@ -1,7 +1,5 @@
 use Prim.Native.Nat.{◌≤◌}
 use native.Mathlib.Omega.{arith}
-use borrow.Author.Rules.{rules}
-use borrow.Author.Tests.{not-true, not-false}
 use Rattle.update_places.specs.Place.{length_of}
 use Rattle.update_running.proofs.Entries.{one-sum, form_short, put_refused, put-done}
 use Rattle.update_running.proofs.put_field.Goals.{After-unsigned_length}
