@@ -7,19 +7,12 @@ use Rattle.frame_fault_fields.proofs.write_cell.Goals as goal
 
 pub returns-then-i-frame : goal.returns-then-i-frame
 unfolding cell
-returns-then-i-frame c =
-    let b = c.before.before in
-    let m = b.before.before.before.before.before in
-    let i = m.before.before in
-    rw (lt-ltb _ _ i.if-i-frame.true) (also m.write_margin-to.ensures b.write_byte.ensures)
+returns-then-i-frame c = rw (lt-ltb _ _ c.if-i-frame.true) (also c.write_margin-to.ensures c.write_byte.ensures)
 
 pub returns-then-marked : goal.returns-then-marked
 unfolding cell
 returns-then-marked c =
-    let b = c.before.before in
-    let m = b.before.before.before.before.before in
-    let i = m.before.before in
-    rw (le-ltb _ _ i.if-i-frame.false, i.if-marked.true) (also m.write_margin-to-then-marked.ensures (piece _ b.write_bytes.ensures))
+    rw (le-ltb _ _ c.if-i-frame.false, c.if-marked.true) (also c.write_margin-to-then-marked.ensures (piece _ c.write_bytes.ensures))
 
 pub returns : goal.returns
 unfolding cell

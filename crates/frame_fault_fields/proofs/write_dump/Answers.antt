@@ -17,13 +17,11 @@ use Rattle.frame_fault_fields.proofs.write_dump.Goals as goal
 -- the lines stand at the front of the array
 laid : (c : After-lay_cells-length)
     → (let a = c.args in
-    (take c.lay_cells-length.result c.lay_cells-length.new.0 ≡ cells a.frame.now a.place (dump_start a.place) 80) × (c.lay_cells-length.result ≤ length c.lay_cells-length.new.0))
+    (take c.lay_cells-length.result c.lay_cells-length.new.text ≡ cells a.frame.now a.place (dump_start a.place) 80) × (c.lay_cells-length.result ≤ length c.lay_cells-length.new.text))
 laid c =
-    let i = c.before.before in
-    let d = i.before in
-    let a = d.args in
-    let h = i.if-from-gt-DUMP_LIMIT.false in
-    let e = d.dump_start-from.ensures in
+    let a = c.args in
+    let h = c.if-from-gt-DUMP_LIMIT.false in
+    let e = c.dump_start-from.ensures in
     let f = rw e at c.lay_cells-length.ensures in
     front (cells a.frame.now a.place (dump_start a.place) 80) (cells-few a.frame.now a.place (omega arith)) f
 
@@ -37,16 +35,13 @@ returns-then-from-gt-DUMP_LIMIT c =
 pub returns : goal.returns
 unfolding dump
 returns c =
-    let w = c.before.before in
-    let l = w.before.before.before.before in
-    let d = l.before.before.before in
-    let a = d.args in
-    let e = d.dump_start-from.ensures in
-    let h = l.if-from-gt-DUMP_LIMIT.false in
-    rw (le-leb (dump_start a.place) 65536 (omega arith), ← (laid l).0) w.write_bytes.ensures
+    let a = c.args in
+    let e = c.dump_start-from.ensures in
+    let h = c.if-from-gt-DUMP_LIMIT.false in
+    rw (le-leb (dump_start a.place) 65536 (omega arith), ← (laid (goal.at.returns c).After-lay_cells-length).0) c.write_bytes.ensures
 
 pub slice_bounds-text-end : goal.slice_bounds-text-end
-slice_bounds-text-end c = (laid c.before.before).1
+slice_bounds-text-end c = (laid (goal.at.slice_bounds-text-end c).After-lay_cells-length).1
 
 pub slice_bounds-write_bytes-end : goal.slice_bounds-write_bytes-end
-slice_bounds-write_bytes-end c = sym (length-take-le _ _ (laid c.before.before.before).1)
+slice_bounds-write_bytes-end c = sym (length-take-le _ _ (laid (goal.at.slice_bounds-write_bytes-end c).After-lay_cells-length).1)

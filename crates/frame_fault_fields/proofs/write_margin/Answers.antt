@@ -9,4 +9,4 @@ pub returns-then-i-ne0 : goal.returns-then-i-ne0
 returns-then-i-ne0 c = rw (ne_eqb _ 0 c.if-i-ne0.true, margin) (none _ _)
 
 pub returns : goal.returns
-returns c = let w = c.before.before in rw (eq-eqb _ 0 w.if-i-ne0.false, margin) w.write_column.ensures
+returns c = rw (eq-eqb _ 0 c.if-i-ne0.false, margin) c.write_column.ensures
