@@ -1,5 +1,5 @@
 -- Items with distinct keys, the pairs that are written of them, and what is read of those. Assumes nothing.
-use Prim.Native.Nat.{ℕ, ◌^◌, ◌<◌}
+use Prim.Native.Nat.{ℕ, ◌+◌, ◌^◌, ◌<◌}
 use mathlib.Core.Path.{◌≡◌, refl, sym, ap, ap₂, ◌∙◌, subst}
 use mathlib.Core.Bool.{Bool, true, false, not, ◌&&◌, ◌||◌}
 use mathlib.Core.List.{List, [], ◌∷◌}
@@ -48,7 +48,7 @@ pair_keys (p ∷ ps) = p.key ∷ pair_keys ps
 located-keys : (at : ℕ) (ps : List Pair) → keys (located at ps) ≡ pair_keys ps
 unfolding keys located pair_keys
 located-keys at [] = refl
-located-keys at (p ∷ ps) = ap (◌∷◌ p.key) (located-keys _ ps)
+located-keys at (p ∷ ps) = ap (◌∷◌ p.key) (located-keys (at + 1 + length p.bytes) ps)
 
 -- a key that no item has, no pair has
 has-pairs : (k : ℕ) (xs : List Item) → has k (item_keys xs) ≡ false → has k (pair_keys (pairs xs)) ≡ false

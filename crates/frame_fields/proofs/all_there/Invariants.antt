@@ -1,14 +1,9 @@
 -- One key after the other.
 use Prim.Native.Nat.{ℕ, ◌-◌, ◌≤◌}
-use mathlib.Core.Path.{◌≡◌, refl, sym, ap, ◌∙◌}
-use native.Mathlib.Omega.{arith}
-use borrow.Author.Rules.{rules}
-use borrow.Author.Tests.{not-true, not-false}
-use lib.ListN.{length, drop, drop_of_length-le}
-use Rattle.frames.specs.declared.Place.{Place}
+use mathlib.Core.Path.{◌≡◌}
+use lib.ListN.{length, drop}
 use Rattle.frames.specs.Held.{all}
 use Rattle.frame_tables.specs.Tables.{place_in}
-use Rattle.frame_fields.proofs.Laws.{all-fails, all-goes-on}
 use Rattle.frame_fields.proofs.all_there.Given as goal
 
 abbrev pub invariant-loop-i : goal.invariant-loop-i

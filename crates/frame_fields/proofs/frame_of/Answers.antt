@@ -1,5 +1,4 @@
 -- Field by field.
-use borrow.Author.Rules.{rules}
 use Rattle.frames.specs.Keys.{frame_at}
 use Rattle.frame_fields.proofs.frame_of.Goals as goal
 

@@ -1,6 +1,5 @@
 -- Absent, or there.
 use mathlib.Core.Path.{◌∙◌}
-use borrow.Author.Rules.{rules}
 use Rattle.frame_fields.proofs.Laws.{number_there, number-none}
 use Rattle.frame_fields.proofs.number_in.Goals as goal
 

@@ -1,5 +1,4 @@
 -- An unsigned number, or none.
-use borrow.Author.Rules.{rules}
 use Rattle.frames.specs.Held.{as_number}
 use Rattle.frames.specs.Keys.{optional}
 use Rattle.frames.proofs.Front.{number-front}

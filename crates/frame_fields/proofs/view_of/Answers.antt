@@ -1,5 +1,4 @@
 -- Past the end, to the end, or within.
-use borrow.Author.Rules.{rules}
 use Rattle.frame_fields.proofs.Laws.{view_past, view-rest, view-part}
 use Rattle.frame_fields.proofs.view_of.Goals as goal
 

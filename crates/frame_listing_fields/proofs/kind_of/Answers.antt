@@ -6,12 +6,15 @@ use Rattle.frames.specs.Codes.{is_error}
 use Rattle.frame_rules.proofs.Laws.{unknown_code}
 use Rattle.frame_listing_fields.specs.Names.{names, name_in, kind_of}
 use Rattle.frame_listing_fields.proofs.Names.{error_name, no_name}
+use Rattle.frame_listing_fields.proofs.kind_of.Goals.{in_default-via-then-code-lt32768, in_default-via-else-code-lt32768+else-code-lt36864}
 use Rattle.frame_listing_fields.proofs.kind_of.Goals as goal
 
 pub returns-in_default : goal.returns-in_default
 returns-in_default c =
-    let i = c.before.before in
-    (sym (no_name _ (unknown_code _ (⊎_elim (λ w. inl w.taken) (λ w. inr w.1.left) i.in_default.branch) i.in_default-1.rest)), omega arith)
+    elim c.in_default.branch [
+      in_default-via-then-code-lt32768 w ↦ (sym (no_name _ (unknown_code _ (inl (omega arith)) c.in_default-1.rest)), omega arith)
+    | in_default-via-else-code-lt32768+else-code-lt36864 w ↦ (sym (no_name _ (unknown_code _ (inr (omega arith)) c.in_default-1.rest)), omega arith)
+    ]
 
 pub returns-in-0 : goal.returns-in-0
 unfolding kind_of is_error name_in names
@@ -63,4 +66,4 @@ returns-in-64 c = (rw c.in-64.is refl, omega arith)
 
 pub returns-in-32768-to-36863 : goal.returns-in-32768-to-36863
 unfolding kind_of is_error name_in names
-returns-in-32768-to-36863 c = let i = c.before.before in (sym (error_name _ i.in-32768-to-36863.if-code-lt32768-own.false i.in-32768-to-36863.if-code-lt36864-own.true), omega arith)
+returns-in-32768-to-36863 c = (sym (error_name _ c.in-32768-to-36863.if-code-lt32768-own.false c.in-32768-to-36863.if-code-lt36864-own.true), omega arith)

@@ -3,6 +3,10 @@ use borrow.Author.Rules.{rules}
 use Rattle.frame_listing_fields.specs.Sync.{sync_text}
 use Rattle.frame_listing_fields.proofs.write_sync.Goals as goal
 
-pub shape_of-out-else-sync : goal.shape_of-out-else-sync
+pub returns-then-sync : goal.returns-then-sync
 unfolding sync_text
-shape_of-out-else-sync c = rw c.if-sync.true c.write_number.ensures
+returns-then-sync c = rw c.if-sync.true c.write_number.ensures
+
+pub returns-else-sync : goal.returns-else-sync
+unfolding sync_text
+returns-else-sync c = rw c.if-sync.false c.write_bytes.ensures

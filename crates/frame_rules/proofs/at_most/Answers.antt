@@ -1,5 +1,4 @@
 -- An unsigned number in its range.
-use borrow.Author.Rules.{rules}
 use Rattle.frames.specs.Held.{as_number, number_or_bytes, value_held, suits}
 use Rattle.frames.proofs.Front.{number-front}
 use Rattle.frame_rules.proofs.at_most.Goals as goal

@@ -1,5 +1,4 @@
 -- A header of the kind asked for.
-use borrow.Author.Rules.{rules}
 use Rattle.frames.specs.Held.{is_header}
 use Rattle.frames.proofs.Front.{header-front}
 use Rattle.frame_rules.proofs.has_header.Goals as goal

@@ -1,5 +1,4 @@
 -- A line for each key.
-use borrow.Author.Rules.{rules}
 use Rattle.frame_rules.specs.Needs.{line_at}
 use Rattle.frame_rules.proofs.Laws.{line_past}
 use Rattle.frame_rules.proofs.line_of.Goals as goal

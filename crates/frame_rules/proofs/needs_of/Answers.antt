@@ -1,6 +1,5 @@
 -- A line for each code.
 use mathlib.Core.Logic.{inl, inr}
-use borrow.Author.Rules.{rules}
 use Rattle.frames.specs.Codes.{required, is_error, among, codes}
 use Rattle.frame_rules.specs.Needs.{needs_for, needs_of}
 use Rattle.frame_rules.proofs.Laws.{error_code, unknown_code}

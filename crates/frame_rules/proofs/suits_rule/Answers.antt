@@ -1,5 +1,4 @@
 -- By the rule.
-use borrow.Author.Rules.{rules}
 use Rattle.frames.specs.Held.{value_held, suits}
 use Rattle.frame_rules.proofs.suits_rule.Goals as goal
 

@@ -1,6 +1,5 @@
 -- Absent, or there.
 use mathlib.Core.Path.{◌∙◌}
-use borrow.Author.Rules.{rules}
 use Rattle.frame_fields.proofs.Laws.{suits_there, suits-none}
 use Rattle.frame_suits.proofs.key_suits.Goals as goal
 

@@ -1,6 +1,5 @@
 -- An unsigned number below 128, and then a value.
 use mathlib.Core.Path.{sym, ◌∙◌}
-use borrow.Author.Rules.{rules}
 use borrow.Enum.Refused.{opened}
 use Rattle.frame_tables.proofs.Entries.{no_number, large_key, no_value, one_entry, ends_after}
 use Rattle.frame_tables.proofs.entry_at.Goals as goal

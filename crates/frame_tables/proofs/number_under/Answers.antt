@@ -1,6 +1,5 @@
 -- An element, or 0 past the end.
 use mathlib.Core.Path.{sym}
-use borrow.Author.Rules.{rules}
 use lib.ListN.{get_or-eq_default}
 use Rattle.frame_tables.proofs.number_under.Goals as goal
 

@@ -1,6 +1,5 @@
 -- Absent, or there.
 use mathlib.Core.Path.{◌∙◌}
-use borrow.Author.Rules.{rules}
 use Rattle.frame_tables.proofs.Tables.{place_none, place_some}
 use Rattle.frame_tables.proofs.place_in.Goals as goal
 

@@ -1,6 +1,5 @@
 -- The map's header, then its entries.
 use mathlib.Core.Path.{sym, ap, ◌∙◌}
-use borrow.Author.Rules.{rules}
 use Rattle.frames.specs.Limits.{held_depth}
 use Rattle.frame_tables.specs.Tables.{table, tabled_on}
 use Rattle.frame_tables.proofs.Entries.{no_map, a-map}

@@ -1,9 +1,7 @@
 -- The loop lays an entry at a time into the table.
 use Prim.Native.Nat.{ℕ, suc, ◌+◌, ◌-◌, ◌<◌}
 use mathlib.Core.Path.{◌≡◌, refl, sym, ap, ◌∙◌}
-use mathlib.Core.Option.{some}
 use native.Mathlib.Omega.{arith}
-use borrow.Author.Rules.{rules}
 use Rattle.msgpack_first_bytes.specs.Bytes.{Bytes}
 use Rattle.frames.specs.Limits.{held_depth}
 use Rattle.frames.specs.Maps.{Entry, entry, entry_at, entries}
@@ -42,8 +40,8 @@ loop-left-preserved c =
     let on : Table → Table = λ t. tabled_on t (entries held_depth s (l.left - 1) (e.start + e.length)) in
     let one = left_one _ _ _ _ _ c.loop-left-test.true l.invariant in
     elim c.if-lengths-key-eq0.branch [
-      then-lengths-key-eq0 w ↦ ap on (table_eq w.starts-is w.lengths-is w.number-is ∙ sym (laid_new e t w.if-lengths-key-eq0.true)) ∙ sym n ∙ one
-    | else-lengths-key-eq0 w ↦ ap on (table_eq w.starts-is w.lengths-is w.number-is ∙ sym (laid_twice e t w.if-lengths-key-eq0.false)) ∙ sym n ∙ one
+      | then-lengths-key-eq0 w ↦ ap on (table_eq w.starts-is w.lengths-is w.number-is ∙ sym (laid_new e t w.if-lengths-key-eq0.true)) ∙ sym n ∙ one
+      | else-lengths-key-eq0 w ↦ ap on (table_eq w.starts-is w.lengths-is w.number-is ∙ sym (laid_twice e t w.if-lengths-key-eq0.false)) ∙ sym n ∙ one
     ]
 
 pub returns : goal.returns

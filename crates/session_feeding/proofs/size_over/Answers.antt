@@ -23,11 +23,11 @@ slice_bounds-write_bytes-end-4 c =
 pub slice_bounds-read_size-end : goal.slice_bounds-read_size-end
 slice_bounds-read_size-end c =
     let e = c.write_bytes-2.ensures.1 in
-    let l : length c.write_bytes-2.new.0 ≡ 9 =
+    let l : length c.write_bytes-2.new.out ≡ 9 =
     ap length c.write_bytes-2.ensures.1 ∙ length-put _ _ _ ∙ ap length c.write_bytes.ensures.1 ∙ length-put _ _ _ in
     let i = c.least-b.ensures in
     let j = c.least-a.ensures in
-    sym (length-take-le _ c.write_bytes-2.new.0 (omega arith))
+    sym (length-take-le _ c.write_bytes-2.new.out (omega arith))
 
 pub returns : goal.returns
 returns c =
