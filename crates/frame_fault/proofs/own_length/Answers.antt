@@ -8,25 +8,18 @@ use Rattle.frame_fault.proofs.own_length.Goals as goal
 
 pub overflow_sub-left : goal.overflow_sub-left
 overflow_sub-left c =
-    let z = c in
-    let r = z.before in
-    size_fits r.args.left.now _ _ (sym z.in-Promises.is ∙ r.read_size.ensures)
+    size_fits c.args.left.now _ _ (sym c.in-Promises.is ∙ c.read_size.ensures)
 
 pub returns-then-left-from : goal.returns-then-left-from
 returns-then-left-from c =
-    let z = c.before in
-    let r = z.before in
-    (omega arith, own-cut r.args.left.now _ _ (sym z.in-Promises.is ∙ r.read_size.ensures) c.if-left-from.true)
+    (omega arith, own-cut c.args.left.now _ _ (sym c.in-Promises.is ∙ c.read_size.ensures) c.if-left-from.true)
 
 pub returns-in-Refused : goal.returns-in-Refused
 returns-in-Refused c =
-    let r = c.before in
-    (omega arith, own-refused r.args.left.now _ _ (sym c.in-Refused.is ∙ r.read_size.ensures))
+    (omega arith, own-refused c.args.left.now _ _ (sym c.in-Refused.is ∙ c.read_size.ensures))
 
 pub returns-else-left-from : goal.returns-else-left-from
 returns-else-left-from c =
-    let z = c.before in
-    let r = z.before in
-    let e = sym z.in-Promises.is ∙ r.read_size.ensures in
-    let f = size_fits r.args.left.now _ _ e in
-    (omega arith, own_promised r.args.left.now _ _ e)
+    let e = sym c.in-Promises.is ∙ c.read_size.ensures in
+    let f = size_fits c.args.left.now _ _ e in
+    (omega arith, own_promised c.args.left.now _ _ e)

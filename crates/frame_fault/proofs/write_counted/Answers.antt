@@ -8,9 +8,6 @@ use Rattle.frame_fault.proofs.write_counted.Goals as goal
 
 pub returns : goal.returns
 returns c =
-    let w3 = c.before.before in
-    let w2 = w3.before.before.before.before in
-    let w1 = w2.before.before.before.before in
-    let a = w1.args in
+    let a = c.args in
     rw (append_assoc (decimal a.n) (a.end ∷ []) a.after.now) at
-    (also (piece a.before.now w1.write_bytes-to.ensures) (also (piece (ended a.n a.end) w2.write_number-to.ensures) (piece a.after.now w3.write_bytes.ensures)))
+    (also (piece a.before.now c.write_bytes-to.ensures) (also (piece (ended a.n a.end) c.write_number-to.ensures) (piece a.after.now c.write_bytes.ensures)))

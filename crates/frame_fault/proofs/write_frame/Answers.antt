@@ -9,8 +9,6 @@ use Rattle.frame_fault.proofs.write_frame.Goals as goal
 pub returns : goal.returns
 unfolding frame_line
 returns c =
-    let w2 = c.before.before in
-    let w1 = w2.before.before.before.before.before.before in
-    let a = w1.args in
+    let a = c.args in
     rw (twice (text "frame    ") (decimal a.frame) (text ", from byte ") (decimal a.from) (text " of the input\n")) at
-    (also w1.write_counted-to.ensures w2.write_counted.ensures)
+    (also c.write_counted-to.ensures c.write_counted.ensures)

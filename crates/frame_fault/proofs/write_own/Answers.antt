@@ -8,10 +8,7 @@ use Rattle.frame_fault.proofs.write_own.Goals as goal
 
 pub returns : goal.returns
 returns c =
-    let w = c.before.before in
-    let d = w.before.before.before.before.before in
-    let o = d.before.before.before in
-    rw (sym o.own_length-end.ensures.1) (also (piece _ d.write_dump-to.ensures) (piece (text "\n") w.write_bytes.ensures))
+    rw (sym c.own_length-end.ensures.1) (also (piece _ c.write_dump-to.ensures) (piece (text "\n") c.write_bytes.ensures))
 
 pub slice_bounds-write_dump-end : goal.slice_bounds-write_dump-end
 slice_bounds-write_dump-end c = sym (length-take-le _ _ c.own_length-end.ensures.0)

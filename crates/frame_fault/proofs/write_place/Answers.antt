@@ -10,13 +10,10 @@ use Rattle.frame_fault.proofs.write_place.Goals as goal
 pub returns-then-place : goal.returns-then-place
 unfolding place_line
 returns-then-place c =
-    let w2 = c.before.before in
-    let w1 = w2.before.before.before.before.before.before.before in
-    let i = w1.before.before.before.before in
-    let a = i.args in
-    rw i.if-place.true (rw (twice (text "place    ") (decimal a.place.value) (text ", byte ") (decimal (a.from + a.place.value)) (text " of the input\n")) at
-    (also w1.write_counted-to.ensures w2.write_counted.ensures))
+    let a = c.args in
+    rw c.if-place.true (rw (twice (text "place    ") (decimal a.place.value) (text ", byte ") (decimal (a.from + a.place.value)) (text " of the input\n")) at
+    (also c.write_counted-to.ensures c.write_counted.ensures))
 
 pub returns : goal.returns
 unfolding place_line
-returns c = let w = c.before.before in rw w.if-place.false (piece _ w.write_bytes.ensures)
+returns c = rw c.if-place.false (piece _ c.write_bytes.ensures)

@@ -10,9 +10,6 @@ use Rattle.frame_fault.proofs.write_refused.Goals as goal
 pub returns : goal.returns
 unfolding refused_line
 returns c =
-    let w3 = c.before.before in
-    let w2 = w3.before.before.before.before.before in
-    let w1 = w2.before.before.before.before in
-    let a = w1.args in
+    let a = c.args in
     rw (twice (text "refused  ") (decimal a.number) (text ", ") (words_of a.number) (text "\n")) at
-    (also w1.write_counted-to.ensures (also (piece (words_of a.number) w2.write_words-to.ensures) (piece (text "\n") w3.write_bytes.ensures)))
+    (also c.write_counted-to.ensures (also (piece (words_of a.number) c.write_words-to.ensures) (piece (text "\n") c.write_bytes.ensures)))
