@@ -1,7 +1,6 @@
 -- By the content.
 use Rattle.frames.specs.Held.{suits}
 use Rattle.frame_items.specs.Content.{held_of}
-use borrow.Author.Rules.{rules}
 use Rattle.frame_items.proofs.content_suits.Goals as goal
 
 pub returns-in-View : goal.returns-in-View

@@ -1,7 +1,6 @@
 -- By the content.
 use Rattle.frames.specs.Writing.{sound}
 use Rattle.frame_items.specs.Content.{held_of}
-use borrow.Author.Rules.{rules}
 use Rattle.frame_items.proofs.is_sound.Goals as goal
 
 pub returns-in-View : goal.returns-in-View

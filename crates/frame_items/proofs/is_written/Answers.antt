@@ -1,6 +1,5 @@
 -- By the content.
 use Rattle.frame_items.specs.Content.{is_written}
-use borrow.Author.Rules.{rules}
 use Rattle.frame_items.proofs.is_written.Goals as goal
 
 pub returns-in-Absent : goal.returns-in-Absent

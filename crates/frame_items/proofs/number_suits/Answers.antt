@@ -1,6 +1,5 @@
 -- By the rule.
 use Rattle.frames.specs.Held.{suits}
-use borrow.Author.Rules.{rules}
 use Rattle.frame_items.proofs.number_suits.Goals as goal
 
 pub returns-in-AtMost : goal.returns-in-AtMost

@@ -1,7 +1,6 @@
 -- By the content.
 use Rattle.frames.specs.Held.{encoded}
 use Rattle.frame_items.specs.Content.{held_of, pair_length, capped}
-use borrow.Author.Rules.{rules}
 use Rattle.frame_items.proofs.pair_length.Goals as goal
 
 pub returns-in-Number : goal.returns-in-Number

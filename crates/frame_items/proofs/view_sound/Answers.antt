@@ -2,7 +2,6 @@
 use Rattle.frames.specs.Limits.{held_depth}
 use Rattle.frames.specs.Writing.{sound, is_whole}
 use Rattle.frames.proofs.Front.{value-front}
-use borrow.Author.Rules.{rules}
 use Rattle.frame_items.proofs.view_sound.Goals as goal
 
 pub returns-in-Whole : goal.returns-in-Whole

@@ -1,6 +1,5 @@
 -- By the rule.
 use Rattle.frames.specs.Held.{suits, value_held}
-use borrow.Author.Rules.{rules}
 use Rattle.frame_items.proofs.view_suits.Goals as goal
 
 pub returns-in-AtMost : goal.returns-in-AtMost

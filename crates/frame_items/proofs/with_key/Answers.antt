@@ -2,7 +2,6 @@
 use Prim.Native.Nat.{◌+◌}
 use native.Mathlib.Omega.{arith}
 use Rattle.frame_items.proofs.Laws.{capped-low, capped_high}
-use borrow.Author.Rules.{rules}
 use Rattle.frame_items.proofs.with_key.Goals as goal
 
 pub returns-then-n-lt-MAX_SIZE : goal.returns-then-n-lt-MAX_SIZE

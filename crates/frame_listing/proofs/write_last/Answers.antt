@@ -6,7 +6,4 @@ use Rattle.frame_listing.proofs.write_last.Goals as goal
 
 pub returns : goal.returns
 returns c =
-    let w2 = c.before.before in
-    let w1 = w2.before.before.before.before in
-    let s = w1.before.before.before.before in
-    written (step _ _ _ w1.write_bytes-at.ensures (front s.requires) (λ h. wrote _ _ _ w2.write_number.ensures h))
+    written (step _ _ _ c.write_bytes-at.ensures (front c.requires) (λ h. wrote _ _ _ c.write_number.ensures h))

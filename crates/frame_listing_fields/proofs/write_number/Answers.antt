@@ -10,5 +10,5 @@ use Rattle.frame_listing_fields.proofs.write_number.Goals as goal
 pub returns : goal.returns
 returns c =
     let s = c.spell-from in
-    let e = take_all (21 - s.result) (drop s.result s.new.1.1.0) (simp length-drop (omega arith)) ∙ s.ensures.1.1 in
+    let e = take_all (21 - s.result) (drop s.result s.new.text) (simp length-drop (omega arith)) ∙ s.ensures.1.1 in
     rw (sym e) c.write_bytes.ensures

@@ -1,6 +1,5 @@
 -- A body's map, or none.
 use mathlib.Core.Path.{sym, ap, ◌∙◌}
-use borrow.Author.Rules.{rules}
 use Rattle.frame_tables.specs.Tables.{table, tabled_on, laid_all}
 use Rattle.frame_reading.specs.declared.Body.{Body}
 use Rattle.frame_reading.specs.Steps.{entries_in}

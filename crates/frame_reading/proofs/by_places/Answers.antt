@@ -4,9 +4,7 @@ use Prim.Native.Nat.{ℕ}
 use mathlib.Core.List.{List}
 use mathlib.Core.Bool.{Bool, ◌&&◌}
 use mathlib.Core.Option.{some}
-use borrow.Author.Rules.{rules}
 use borrow.Author.Tests.{not-true, not-false}
-use lib.ListN.{take}
 use lib.Seq.{length-take-le}
 use Rattle.msgpack_first_bytes.specs.Bytes.{Bytes}
 use Rattle.frames.specs.Codes.{required}
@@ -39,10 +37,10 @@ returns-then-not-all_there c =
     let a = c.args in
     c.refused-then-not-all_there.ensures
     ∙ not_all_there
-        (facts {s = a.s.now} {f = place_in a.header_starts.now a.header_lengths.now} {g = place_in a.starts.now a.lengths.now}
-        (code_there _ _ c.number_in-code.ensures (not-false _ c.if-not-code.false)) (code_known _ c.needs_of-needs.ensures (not-false _ c.if-not-needs.false))
-        (ap₂ ◌&&◌ c.header_suits.ensures c.body_suits.ensures))
-        c.if-not-suited.false c.all_there.ensures c.if-not-all_there.true
+    (facts {s = a.s.now} {f = place_in a.header_starts.now a.header_lengths.now} {g = place_in a.starts.now a.lengths.now}
+    (code_there _ _ c.number_in-code.ensures (not-false _ c.if-not-code.false)) (code_known _ c.needs_of-needs.ensures (not-false _ c.if-not-needs.false))
+    (ap₂ ◌&&◌ c.header_suits.ensures c.body_suits.ensures))
+    c.if-not-suited.false c.all_there.ensures c.if-not-all_there.true
 
 pub returns : goal.returns
 unfolding code_in
@@ -60,10 +58,10 @@ returns-then-not-suited c =
     let a = c.args in
     c.refused-then-not-suited.ensures
     ∙ unsuited
-        (facts {s = a.s.now} {f = place_in a.header_starts.now a.header_lengths.now} {g = place_in a.starts.now a.lengths.now}
-        (code_there _ _ c.number_in-code.ensures (not-false _ c.if-not-code.false)) (code_known _ c.needs_of-needs.ensures (not-false _ c.if-not-needs.false))
-        (ap₂ ◌&&◌ c.header_suits.ensures c.body_suits.ensures))
-        c.if-not-suited.true
+    (facts {s = a.s.now} {f = place_in a.header_starts.now a.header_lengths.now} {g = place_in a.starts.now a.lengths.now}
+    (code_there _ _ c.number_in-code.ensures (not-false _ c.if-not-code.false)) (code_known _ c.needs_of-needs.ensures (not-false _ c.if-not-needs.false))
+    (ap₂ ◌&&◌ c.header_suits.ensures c.body_suits.ensures))
+    c.if-not-suited.true
 
 pub slice_bounds-keys-end : goal.slice_bounds-keys-end
 slice_bounds-keys-end c = keys-fit _ c.needs_of-needs.ensures

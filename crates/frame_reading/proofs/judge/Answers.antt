@@ -1,6 +1,5 @@
 -- What the tables say, then the rest.
 use mathlib.Core.Path.{◌∙◌}
-use borrow.Author.Rules.{rules}
 use Rattle.frame_reading.proofs.Places.{long, judged, told}
 use Rattle.frame_reading.proofs.judge.Goals as goal
 

@@ -1,12 +1,8 @@
 -- Each way through header and body.
-use Prim.Native.Nat.{ℕ, ◌<◌}
-use mathlib.Core.Path.{◌≡◌, sym, ap, ◌∙◌}
-use borrow.Author.Rules.{rules}
-use lib.ListN.{length, drop}
-use Rattle.msgpack_values.specs.Value.{shift, value}
+use Prim.Native.Nat.{ℕ}
+use mathlib.Core.Path.{sym, ap, ◌∙◌}
 use Rattle.msgpack_values.specs.Spoiled.{place_of, spoiled_at}
-use Rattle.msgpack_values.specs.declared.Read.TheVariants.{Whole}
-use Rattle.frames.specs.Limits.{max_depth, held_depth}
+use Rattle.frames.specs.Limits.{held_depth}
 use Rattle.frames.specs.Maps.{entries_at}
 use Rattle.frames.specs.Reading.{refuse_at, by_entries, broken}
 use Rattle.frame_reading.specs.Steps.{entries_in}

@@ -1,7 +1,6 @@
 -- Each way that the size is judged, then the contents.
 use mathlib.Core.Path.{sym, ◌∙◌}
 use native.Mathlib.Omega.{arith}
-use borrow.Author.Rules.{rules}
 use lib.Seq.{length-take-le}
 use Rattle.frame_reading.proofs.Contents.{frame_refused, size_fits, not_all_come, all_come}
 use Rattle.frame_reading.proofs.read_frame.Goals as goal

@@ -1,5 +1,4 @@
 -- Each way that the size number is judged.
-use borrow.Author.Rules.{rules}
 use Rattle.frames.specs.Reading.{size_by, size_of}
 use Rattle.frames.proofs.Front.{number-front}
 use Rattle.frame_reading.proofs.Contents.{size_none, size_large, size_is}

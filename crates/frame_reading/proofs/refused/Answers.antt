@@ -1,5 +1,4 @@
 -- A number, and nothing else.
-use borrow.Author.Rules.{rules}
 use Rattle.frames.specs.Reading.{refuse}
 use Rattle.frame_reading.proofs.refused.Goals as goal
 

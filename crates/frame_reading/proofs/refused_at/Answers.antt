@@ -1,6 +1,5 @@
 -- A number and a place, and nothing else.
 use mathlib.Core.Path.{ap}
-use borrow.Author.Rules.{rules}
 use Rattle.frames.specs.declared.Frame.{Frame}
 use Rattle.frame_reading.proofs.refused_at.Goals as goal
 

@@ -1,6 +1,5 @@
 use mathlib.Core.Path.{sym, ◌∙◌}
 use native.Mathlib.Omega.{arith}
-use borrow.Author.Rules.{rules}
 use Rattle.update_places.proofs.Runs.{placed, from-tuple, from_list, from-work}
 use Rattle.update_places.proofs.copy_from.Goals as goal
 

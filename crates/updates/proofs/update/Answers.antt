@@ -11,7 +11,7 @@ pub answer_of-requires : goal.answer_of-requires
 answer_of-requires c =
     let v = c in
     let a = c.args in
-    told-few v.updated.result (update a.tuple.now a.list.now a.index-base) a.out.now v.updated.new.out v.updated.ensures
+    told-few v.updated.result (update a.tuple.now a.list.now a.index_base) a.out.now v.updated.new.out v.updated.ensures
 
 pub returns : goal.returns
 unfolding update_call
@@ -19,4 +19,4 @@ returns c =
     let v = c in
     let a = c.args in
     ap (λ (r : Answer). seen r v.updated.new.out) c.answer_of.ensures
-    ∙ answers a.tuple.now a.list.now v.updated.result (update a.tuple.now a.list.now a.index-base) a.out.now v.updated.new.out v.updated.ensures
+    ∙ answers a.tuple.now a.list.now v.updated.result (update a.tuple.now a.list.now a.index_base) a.out.now v.updated.new.out v.updated.ensures
