@@ -9,21 +9,21 @@ use Rattle.frame_fault.proofs.report.Goals.{After-compose-length}
 use Rattle.frame_fault.proofs.report.Goals as goal
 
 -- what was composed
-whole : (c : After-compose-length) → Composed c.args.input.now c.compose-length.new.1.0 c.compose-length.result
+whole : (c : After-compose-length) → Composed c.args.input.now c.compose-length.new.out c.compose-length.result
 whole c = composed c.args.input.now c.if-input-gt-MOST.false (omega arith) c.compose-length.ensures
 
 pub returns-then-input-gt-MOST : goal.returns-then-input-gt-MOST
 returns-then-input-gt-MOST c =
     let e = report-long c.args.input.now c.if-input-gt-MOST.true in
-    (rw e c.write_bytes.ensures, (rw e (omega arith), next-within _ _ _ c.write_bytes.ensures.0))
+    record { value = rw e c.write_bytes.ensures; input_len_bound = (rw e (omega arith), next-within _ _ _ c.write_bytes.ensures.0) }
 
 pub returns : goal.returns
 returns c =
-    let k = whole w.before.before.before.before in
-    (rw (sym k.is) c.write_bytes-2.ensures, (k.short, next-within _ _ _ c.write_bytes-2.ensures.0))
+    let k = whole (goal.at.returns c).After-compose-length in
+    record { value = rw (sym k.is) c.write_bytes-2.ensures; input_len_bound = (k.short, next-within _ _ _ c.write_bytes-2.ensures.0) }
+
+pub slice_bounds-text-end : goal.slice_bounds-text-end
+slice_bounds-text-end c = (whole (goal.at.slice_bounds-text-end c).After-compose-length).fits
 
 pub slice_bounds-write_bytes-end-2 : goal.slice_bounds-write_bytes-end-2
-slice_bounds-write_bytes-end-2 c = (whole c.before).fits
-
-pub write_bytes-requires-2 : goal.write_bytes-requires-2
-write_bytes-requires-2 c = sym (length-take-le _ _ (whole c.before).fits)
+slice_bounds-write_bytes-end-2 c = sym (length-take-le _ _ (whole (goal.at.slice_bounds-write_bytes-end-2 c).After-compose-length).fits)

@@ -1,12 +1,9 @@
 -- One byte after the other.
 use mathlib.Core.Path.{◌≡◌, refl, ◌∙◌}
-use Prim.Native.Nat.{◌-◌, ◌≤◌}
-use lib.ListN.{length}
 use native.Mathlib.Omega.{arith}
 use native.Mathlib.Numerals.{add-one}
 use borrow.Author.Rules.{rules}
 use Rattle.frame_fault_fields.specs.Dump.{cells}
-use Rattle.frame_fault_fields.specs.Steps.{Lays}
 use Rattle.frame_fault_fields.proofs.Laying.{none, also}
 use Rattle.frame_fault_fields.proofs.lay_cells.Goals as goal
 
@@ -17,7 +14,7 @@ loop-i-init c = (omega arith, refl, none _ _)
 pub loop-i-preserved : goal.loop-i-preserved
 unfolding cells
 loop-i-preserved c =
-    (omega arith, c.write_cell-to.auto.text ∙ c.loop-i.invariant.1, rw add-one (also c.loop-i.invariant.2 c.write_cell-to.ensures))
+    (omega arith, c.write_cell-to.auto.out ∙ c.loop-i.invariant.1, rw add-one (also c.loop-i.invariant.2 c.write_cell-to.ensures))
 
 pub returns : goal.returns
 returns c =
