@@ -1,6 +1,5 @@
 -- The keys of the body.
 use mathlib.Core.Path.{ap, ◌∙◌}
-use borrow.Author.Rules.{rules}
 use Rattle.frame_judging.specs.Judged.{judgement_of}
 use Rattle.frame_judging.proofs.Runs.{body_run}
 use Rattle.frame_judging.proofs.body_judged.Goals as goal

@@ -2,7 +2,6 @@
 use Prim.Native.Nat.{◌+◌}
 use Rattle.frame_items.proofs.Laws.{capped-low, capped_high}
 use native.Mathlib.Omega.{arith}
-use borrow.Author.Rules.{rules}
 use Rattle.frame_judging.proofs.capped_sum.Goals as goal
 
 pub returns-then-a-gt-MAX_SIZE : goal.returns-then-a-gt-MAX_SIZE

@@ -1,5 +1,4 @@
 -- Two sums.
-use borrow.Author.Rules.{rules}
 use Rattle.frame_judging.proofs.contents_length.Goals as goal
 
 pub returns : goal.returns

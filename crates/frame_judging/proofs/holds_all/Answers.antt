@@ -1,11 +1,10 @@
 -- One key after the other.
-use mathlib.Core.Path.{◌≡◌, refl, sym, ◌∙◌}
-use Prim.Native.Nat.{ℕ, ◌-◌, ◌≤◌}
-use lib.ListN.{length, drop, drop_of_length-le}
+use mathlib.Core.Path.{refl, sym, ◌∙◌}
+use Prim.Native.Nat.{ℕ, ◌≤◌}
+use lib.ListN.{length, drop_of_length-le}
 use Rattle.frames.specs.Held.{all, encoded, is_some, locate}
 use Rattle.frames.specs.Keys.{body_items}
 use Rattle.frame_fields.proofs.Laws.{all-fails, all-goes-on}
-use borrow.Author.Rules.{rules}
 use native.Mathlib.Omega.{arith}
 use Rattle.frame_judging.proofs.holds_all.Goals as goal
 

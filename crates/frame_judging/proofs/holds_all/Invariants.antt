@@ -1,13 +1,9 @@
 -- One key after the other.
-use mathlib.Core.Path.{◌≡◌, refl, sym, ◌∙◌}
+use mathlib.Core.Path.{◌≡◌}
 use Prim.Native.Nat.{ℕ, ◌-◌, ◌≤◌}
-use borrow.Author.Tests.{not-true, not-false}
-use lib.ListN.{length, drop, drop_of_length-le}
+use lib.ListN.{length, drop}
 use Rattle.frames.specs.Held.{all, encoded, is_some, locate}
 use Rattle.frames.specs.Keys.{body_items}
-use Rattle.frame_fields.proofs.Laws.{all-fails, all-goes-on}
-use borrow.Author.Rules.{rules}
-use native.Mathlib.Omega.{arith}
 use Rattle.frame_judging.proofs.holds_all.Given as goal
 
 abbrev pub invariant-loop-i : goal.invariant-loop-i

@@ -1,9 +1,7 @@
 -- One key after the other.
-use Prim.Native.Nat.{◌-◌, ◌≤◌}
 use Rattle.frame_judging.specs.Parts.{items_between}
 use Rattle.frame_judging.proofs.Runs.{run, no_run}
-use Rattle.frame_judging.proofs.Passes.{Left, none_yet, next_turn, none_left}
-use borrow.Author.Rules.{rules}
+use Rattle.frame_judging.proofs.Passes.{none_yet, next_turn, none_left}
 use native.Mathlib.Omega.{arith}
 use Rattle.frame_judging.proofs.judged.Goals as goal
 

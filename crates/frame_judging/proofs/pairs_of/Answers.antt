@@ -1,6 +1,5 @@
 -- One, or none.
 use mathlib.Core.Path.{sym, ◌∙◌}
-use borrow.Author.Rules.{rules}
 use native.Mathlib.Omega.{arith}
 use Rattle.frame_judging.proofs.pairs_of.Goals as goal
 
