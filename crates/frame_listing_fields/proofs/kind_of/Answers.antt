@@ -1,6 +1,6 @@
 -- A line for each name.
 use mathlib.Core.Path.{refl, sym}
-use mathlib.Core.Logic.{⊎_elim, inl, inr}
+use mathlib.Core.Logic.{inl, inr}
 use native.Mathlib.Omega.{arith}
 use Rattle.frames.specs.Codes.{is_error}
 use Rattle.frame_rules.proofs.Laws.{unknown_code}
@@ -12,8 +12,8 @@ use Rattle.frame_listing_fields.proofs.kind_of.Goals as goal
 pub returns-in_default : goal.returns-in_default
 returns-in_default c =
     elim c.in_default.branch [
-      in_default-via-then-code-lt32768 w ↦ (sym (no_name _ (unknown_code _ (inl (omega arith)) c.in_default-1.rest)), omega arith)
-    | in_default-via-else-code-lt32768+else-code-lt36864 w ↦ (sym (no_name _ (unknown_code _ (inr (omega arith)) c.in_default-1.rest)), omega arith)
+      | in_default-via-then-code-lt32768 w ↦ (sym (no_name _ (unknown_code _ (inl (omega arith)) c.in_default-1.rest)), omega arith)
+      | in_default-via-else-code-lt32768+else-code-lt36864 w ↦ (sym (no_name _ (unknown_code _ (inr (omega arith)) c.in_default-1.rest)), omega arith)
     ]
 
 pub returns-in-0 : goal.returns-in-0

@@ -1,12 +1,10 @@
 -- `spell` goes from the last digit to the first: the digits that are left, with those that stand, are all.
-use mathlib.Core.Path.{◌≡◌, ap, ◌∙◌}
-use mathlib.Core.List.{[], ◌∷◌, ◌++◌}
+use mathlib.Core.Path.{◌≡◌}
+use mathlib.Core.List.{◌++◌}
 use Prim.Native.Nat.{◌^◌, ◌<◌, ◌≤◌}
-use native.Mathlib.Omega.{arith}
-use lib.ListN.{length, drop, set, length-set, drop_of_length-le}
+use lib.ListN.{length, drop}
 use Rattle.frame_listing_fields.specs.Text.{decimal}
 use Rattle.frame_listing_fields.specs.Steps.{ended}
-use Rattle.frame_listing_fields.proofs.Decimal.{few, store, turn, last}
 use Rattle.frame_listing_fields.proofs.spell.Given as goal
 
 abbrev pub invariant-loop-rest : goal.invariant-loop-rest

@@ -1,7 +1,6 @@
 -- The name is written as it stands.
 use mathlib.Core.Path.{sym}
 use lib.Seq.{length-take-le}
-use borrow.Author.Rules.{rules}
 use Rattle.frame_listing_fields.proofs.write_kind.Goals as goal
 
 pub slice_bounds-write_bytes-end : goal.slice_bounds-write_bytes-end

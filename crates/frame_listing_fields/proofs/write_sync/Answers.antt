@@ -1,5 +1,4 @@
 -- A sync is written as a number, or as `-`.
-use borrow.Author.Rules.{rules}
 use Rattle.frame_listing_fields.specs.Sync.{sync_text}
 use Rattle.frame_listing_fields.proofs.write_sync.Goals as goal
 

@@ -7,7 +7,6 @@ use Rattle.frames.specs.Writing.{pairs}
 use Rattle.frame_judging.proofs.Runs.{header-run, body_run}
 use Rattle.frame_writing.proofs.Turns.{header_form, body_form, size_turn, turn_on, first-room}
 use native.Mathlib.Omega.{arith}
-use borrow.Author.Rules.{rules}
 use Rattle.frame_writing.proofs.put_frame.Goals as goal
 
 pub put_map-b-requires : goal.put_map-b-requires

@@ -3,7 +3,6 @@ use mathlib.Core.Path.{◌∙◌}
 use Rattle.msgpack_writing.specs.Forms.{map_header}
 use Rattle.frame_judging.specs.Parts.{items_between}
 use Rattle.frame_writing.proofs.Turns.{map_first, turn}
-use borrow.Author.Rules.{rules}
 use Rattle.frame_writing.proofs.put_map.Goals as goal
 
 pub put_pairs-requires : goal.put_pairs-requires

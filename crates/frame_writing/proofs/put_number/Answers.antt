@@ -2,7 +2,6 @@
 use mathlib.Core.List.{[], ◌∷◌}
 use Rattle.msgpack_writing.specs.Forms.{big_endian}
 use Rattle.msgpack_writing.proofs.Put.{wrote, written, step}
-use borrow.Author.Rules.{rules}
 use Rattle.frame_writing.proofs.put_number.Goals as goal
 
 pub returns : goal.returns

@@ -3,7 +3,6 @@ use Rattle.frames.specs.Held.{encoded}
 use Rattle.frame_items.specs.Content.{held_of}
 use Rattle.frame_judging.specs.Parts.{pair_of}
 use Rattle.msgpack_writing.proofs.Put.{nothing}
-use borrow.Author.Rules.{rules}
 use Rattle.frame_writing.proofs.put_pair.Goals as goal
 
 pub put_number-requires : goal.put_number-requires

@@ -2,7 +2,6 @@
 use Prim.Native.Nat.{ℕ, ◌+◌}
 use mathlib.Core.Path.{◌≡◌, sym, ap, ◌∙◌}
 use mathlib.Core.Bool.{Bool, true, ◌&&◌}
-use borrow.Author.Rules.{rules}
 use borrow.Author.Tests.{not-true, not-false}
 use lib.ListN.{take}
 use lib.Seq.{length-take-le}
@@ -42,53 +41,53 @@ returns-then-not-sound c =
     let a = c.args in
     rw c.refused-then-not-sound.ensures
     (call_4 _
-        (facts a.frame a.bytes.now c.header_judged-header.result c.body_judged-body.result c.needs_of-needs.ensures (not-false _ c.if-not-needs.false)
-        c.header_judged-header.ensures c.body_judged-body.ensures c.holds_all-there.ensures c.contents_length-size.ensures)
-        c.if-not-sound.true)
+    (facts a.frame a.bytes.now c.header_judged-header.result c.body_judged-body.result c.needs_of-needs.ensures (not-false _ c.if-not-needs.false)
+    c.header_judged-header.ensures c.body_judged-body.ensures c.holds_all-there.ensures c.contents_length-size.ensures)
+    c.if-not-sound.true)
 
 pub returns-then-not-suited : goal.returns-then-not-suited
 returns-then-not-suited c =
     let a = c.args in
     rw c.refused-then-not-suited.ensures
     (call_9 _
-        (facts a.frame a.bytes.now c.header_judged-header.result c.body_judged-body.result c.needs_of-needs.ensures (not-false _ c.if-not-needs.false)
-        c.header_judged-header.ensures c.body_judged-body.ensures c.holds_all-there.ensures c.contents_length-size.ensures)
-        c.if-not-sound.false c.if-not-suited.true)
+    (facts a.frame a.bytes.now c.header_judged-header.result c.body_judged-body.result c.needs_of-needs.ensures (not-false _ c.if-not-needs.false)
+    c.header_judged-header.ensures c.body_judged-body.ensures c.holds_all-there.ensures c.contents_length-size.ensures)
+    c.if-not-sound.false c.if-not-suited.true)
 
 pub returns-then-not-there : goal.returns-then-not-there
 returns-then-not-there c =
     let a = c.args in
     rw c.refused-then-not-there.ensures
     (call_10 _
-        (facts a.frame a.bytes.now c.header_judged-header.result c.body_judged-body.result c.needs_of-needs.ensures (not-false _ c.if-not-needs.false)
-        c.header_judged-header.ensures c.body_judged-body.ensures c.holds_all-there.ensures c.contents_length-size.ensures)
-        c.if-not-sound.false c.if-not-suited.false c.if-not-there.true)
+    (facts a.frame a.bytes.now c.header_judged-header.result c.body_judged-body.result c.needs_of-needs.ensures (not-false _ c.if-not-needs.false)
+    c.header_judged-header.ensures c.body_judged-body.ensures c.holds_all-there.ensures c.contents_length-size.ensures)
+    c.if-not-sound.false c.if-not-suited.false c.if-not-there.true)
 
 pub returns-then-size-gt-MAX_SIZE : goal.returns-then-size-gt-MAX_SIZE
 returns-then-size-gt-MAX_SIZE c =
     let a = c.args in
     rw c.refused-then-size-gt-MAX_SIZE.ensures
     (call_3 _
-        (facts a.frame a.bytes.now c.header_judged-header.result c.body_judged-body.result c.needs_of-needs.ensures (not-false _ c.if-not-needs.false)
-        c.header_judged-header.ensures c.body_judged-body.ensures c.holds_all-there.ensures c.contents_length-size.ensures)
-        c.if-not-sound.false c.if-not-suited.false c.if-not-there.false c.if-size-gt-MAX_SIZE.true)
+    (facts a.frame a.bytes.now c.header_judged-header.result c.body_judged-body.result c.needs_of-needs.ensures (not-false _ c.if-not-needs.false)
+    c.header_judged-header.ensures c.body_judged-body.ensures c.holds_all-there.ensures c.contents_length-size.ensures)
+    c.if-not-sound.false c.if-not-suited.false c.if-not-there.false c.if-size-gt-MAX_SIZE.true)
 
 pub returns-then-out-size : goal.returns-then-out-size
 returns-then-out-size c =
     let a = c.args in
     rw c.refused-then-out-size.ensures
     (call_18 _
-        (facts a.frame a.bytes.now c.header_judged-header.result c.body_judged-body.result c.needs_of-needs.ensures (not-false _ c.if-not-needs.false)
-        c.header_judged-header.ensures c.body_judged-body.ensures c.holds_all-there.ensures c.contents_length-size.ensures)
-        c.if-not-sound.false c.if-not-suited.false c.if-not-there.false c.if-size-gt-MAX_SIZE.false c.if-out-size.true)
+    (facts a.frame a.bytes.now c.header_judged-header.result c.body_judged-body.result c.needs_of-needs.ensures (not-false _ c.if-not-needs.false)
+    c.header_judged-header.ensures c.body_judged-body.ensures c.holds_all-there.ensures c.contents_length-size.ensures)
+    c.if-not-sound.false c.if-not-suited.false c.if-not-there.false c.if-size-gt-MAX_SIZE.false c.if-out-size.true)
 
 pub put_frame-length-requires : goal.put_frame-length-requires
 put_frame-length-requires c =
     let a = c.args in
     let out = a.out.now in
     let f =
-        (facts a.frame a.bytes.now c.header_judged-header.result c.body_judged-body.result c.needs_of-needs.ensures (not-false _ c.if-not-needs.false)
-        c.header_judged-header.ensures c.body_judged-body.ensures c.holds_all-there.ensures c.contents_length-size.ensures)
+    (facts a.frame a.bytes.now c.header_judged-header.result c.body_judged-body.result c.needs_of-needs.ensures (not-false _ c.if-not-needs.false)
+    c.header_judged-header.ensures c.body_judged-body.ensures c.holds_all-there.ensures c.contents_length-size.ensures)
     in
     let h = c.if-size-gt-MAX_SIZE.false in
     ((sized out f h, (ap (λ (j : Judgement). j.count) c.header_judged-header.ensures, ap (λ (j : Judgement). j.count) c.body_judged-body.ensures)), room out f h c.if-out-size.false)
@@ -98,7 +97,7 @@ returns c =
     let a = c.args in
     call_0 _
     (facts a.frame a.bytes.now c.header_judged-header.result c.body_judged-body.result c.needs_of-needs.ensures (not-false _ c.if-not-needs.false)
-        c.header_judged-header.ensures c.body_judged-body.ensures c.holds_all-there.ensures c.contents_length-size.ensures)
+    c.header_judged-header.ensures c.body_judged-body.ensures c.holds_all-there.ensures c.contents_length-size.ensures)
     c.if-not-sound.false c.if-not-suited.false c.if-not-there.false c.if-size-gt-MAX_SIZE.false c.if-out-size.false c.put_frame-length.ensures
 
 pub returns-then-not-needs : goal.returns-then-not-needs
