@@ -1,6 +1,5 @@
 -- The answer with its place.
 use Rattle.updates.proofs.Calls.{press-both, press-declined, press-long, refuses_few}
-use borrow.Author.Rules.{rules}
 use Rattle.updates.proofs.press.Goals as goal
 
 pub returns-in-Written : goal.returns-in-Written

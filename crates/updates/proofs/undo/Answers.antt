@@ -2,7 +2,6 @@
 use Rattle.tuples.specs.Call.{undo, undo_call}
 use Rattle.updates.specs.declared.Call.{TheVariants.Refused, TheVariants.Written}
 use Rattle.updates.proofs.Calls.{answers, answers-long, refuses_few}
-use borrow.Author.Rules.{rules}
 use Rattle.updates.proofs.undo.Goals as goal
 
 pub returns-in-Written : goal.returns-in-Written

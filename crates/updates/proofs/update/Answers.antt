@@ -1,10 +1,9 @@
 -- The answer with its place.
-use mathlib.Core.Path.{◌≡◌, ap, ◌∙◌}
+use mathlib.Core.Path.{ap, ◌∙◌}
 use Rattle.tuples.specs.Call.{update, update_call}
 use Rattle.tuples.specs.declared.Answer.{Answer}
 use Rattle.update_answers.specs.Seen.{seen}
 use Rattle.updates.proofs.Calls.{told-few, answers}
-use borrow.Author.Rules.{rules}
 use Rattle.updates.proofs.update.Goals as goal
 
 pub answer_of-requires : goal.answer_of-requires
