@@ -8,7 +8,7 @@ use lib.Seq.{take_all, drop-drop}
 use Rattle.msgpack_first_bytes.specs.Bytes.{Bytes}
 use Rattle.frames.specs.Reading.{frame_read}
 use Rattle.frame_listing.proofs.Within.{Within, frame-within}
-use Rattle.frame_fault.specs.Fault.{clean_line, report_from}
+use Rattle.frame_fault.specs.Fault.{clean_line}
 use Rattle.frames.proofs.Placed.{frame-placed}
 use Rattle.frame_fault.proofs.Search.{frame-first, fault_turn, clean_turn}
 use Rattle.frame_fault.proofs.compose.Goals.{After-read_frame-answer}

@@ -2,7 +2,6 @@
 use mathlib.Core.Path.{sym}
 use native.Mathlib.Omega.{arith}
 use lib.Seq.{length-take-le}
-use borrow.Author.Rules.{rules}
 use Rattle.frame_listing.proofs.Standing.{next-within}
 use Rattle.frame_fault.proofs.Search.{report-long, Composed, composed}
 use Rattle.frame_fault.proofs.report.Goals.{After-compose-length}
