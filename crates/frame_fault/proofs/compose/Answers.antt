@@ -9,7 +9,7 @@ use Rattle.msgpack_first_bytes.specs.Bytes.{Bytes}
 use Rattle.frames.specs.declared.FrameAnswer.{FrameAnswer}
 use Rattle.frames.specs.Reading.{frame_read}
 use Rattle.frame_listing.proofs.Within.{Within, frame-within}
-use Rattle.frame_fault.specs.Fault.{clean_line, report_from}
+use Rattle.frame_fault.specs.Fault.{clean_line}
 use Rattle.frames.proofs.Placed.{frame-placed}
 use Rattle.frame_fault.proofs.Search.{frame-first, fault_turn, clean_turn}
 use Rattle.frame_fault.proofs.compose.Goals as goal

@@ -1,7 +1,6 @@
 -- All, or as many as are promised.
 use mathlib.Core.Path.{sym, ◌∙◌}
 use native.Mathlib.Omega.{arith}
-use borrow.Author.Rules.{rules}
 use Rattle.frame_reading.proofs.Contents.{size_fits}
 use Rattle.frame_fault.proofs.Lines.{own-refused, own-cut, own_promised}
 use Rattle.frame_fault.proofs.own_length.Goals as goal

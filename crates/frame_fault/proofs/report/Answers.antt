@@ -4,7 +4,6 @@ use Prim.Native.Nat.{ℕ}
 use native.Mathlib.Omega.{arith}
 use lib.ListN.{length-replicate}
 use lib.Seq.{length-take-le}
-use borrow.Author.Rules.{rules}
 use Rattle.frame_listing.proofs.Standing.{next-within}
 use Rattle.frame_fault.proofs.Search.{report-long, composed}
 use Rattle.frame_fault.proofs.report.Goals as goal

@@ -1,6 +1,5 @@
 -- Piece after piece.
 use mathlib.Core.List.{[], ◌∷◌, append_assoc}
-use borrow.Author.Rules.{rules}
 use Rattle.frame_listing_fields.specs.Text.{decimal}
 use Rattle.frame_listing_fields.specs.Steps.{ended}
 use Rattle.frame_fault_fields.proofs.Laying.{piece, also}

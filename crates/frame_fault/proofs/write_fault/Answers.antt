@@ -1,5 +1,4 @@
 -- Line after line.
-use borrow.Author.Rules.{rules}
 use Rattle.frame_fault.specs.Fault.{fault}
 use Rattle.frame_fault_fields.proofs.Laying.{also}
 use Rattle.frame_fault.proofs.write_fault.Goals as goal

@@ -1,5 +1,4 @@
 -- Two numbers and the texts around them.
-use borrow.Author.Rules.{rules}
 use Rattle.frame_listing_fields.specs.Text.{text, decimal}
 use Rattle.frame_fault.specs.Fault.{frame_line}
 use Rattle.frame_fault_fields.proofs.Laying.{also}

@@ -1,7 +1,6 @@
 -- The dump of the frame's own bytes, and the end of its last line.
 use mathlib.Core.Path.{sym}
 use lib.Seq.{length-take-le}
-use borrow.Author.Rules.{rules}
 use Rattle.frame_listing_fields.specs.Text.{text}
 use Rattle.frame_fault_fields.proofs.Laying.{piece, also}
 use Rattle.frame_fault.proofs.write_own.Goals as goal

@@ -1,6 +1,5 @@
 -- Two numbers and the texts around them, or `none`.
 use Prim.Native.Nat.{◌+◌}
-use borrow.Author.Rules.{rules}
 use Rattle.frame_listing_fields.specs.Text.{text, decimal}
 use Rattle.frame_fault.specs.Fault.{place_line}
 use Rattle.frame_fault_fields.proofs.Laying.{piece, also}

@@ -1,5 +1,4 @@
 -- A number and its words.
-use borrow.Author.Rules.{rules}
 use Rattle.frame_listing_fields.specs.Text.{text, decimal}
 use Rattle.frame_fault_fields.specs.Words.{words_of}
 use Rattle.frame_fault.specs.Fault.{refused_line}

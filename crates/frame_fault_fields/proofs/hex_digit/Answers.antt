@@ -1,5 +1,4 @@
 -- 0 to 9, then a to f.
-use borrow.Author.Rules.{rules}
 use borrow.Author.Tests.{lt-ltb, le-ltb}
 use Rattle.frame_fault_fields.proofs.hex_digit.Goals as goal
 

@@ -2,7 +2,6 @@
 use mathlib.Core.Path.{◌≡◌, refl, ◌∙◌}
 use native.Mathlib.Omega.{arith}
 use native.Mathlib.Numerals.{add-one}
-use borrow.Author.Rules.{rules}
 use Rattle.frame_fault_fields.specs.Dump.{cells}
 use Rattle.frame_fault_fields.proofs.Laying.{none, also}
 use Rattle.frame_fault_fields.proofs.lay_cells.Goals as goal

@@ -1,13 +1,9 @@
 -- One byte after the other.
-use mathlib.Core.Path.{◌≡◌, refl, ◌∙◌}
+use mathlib.Core.Path.{◌≡◌}
 use Prim.Native.Nat.{◌-◌, ◌≤◌}
 use lib.ListN.{length}
-use native.Mathlib.Omega.{arith}
-use native.Mathlib.Numerals.{add-one}
-use borrow.Author.Rules.{rules}
 use Rattle.frame_fault_fields.specs.Dump.{cells}
 use Rattle.frame_fault_fields.specs.Steps.{Lays}
-use Rattle.frame_fault_fields.proofs.Laying.{none, also}
 use Rattle.frame_fault_fields.proofs.lay_cells.Given as goal
 
 abbrev pub invariant-loop-i : goal.invariant-loop-i

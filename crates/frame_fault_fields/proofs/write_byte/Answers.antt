@@ -1,6 +1,5 @@
 -- Two digits, between marks or blanks.
 use mathlib.Core.Path.{sym}
-use borrow.Author.Rules.{rules}
 use Rattle.frame_fault_fields.specs.Dump.{between}
 use Rattle.frame_fault_fields.proofs.Laying.{piece}
 use Rattle.frame_fault_fields.proofs.write_byte.Goals as goal

@@ -1,5 +1,4 @@
 -- A byte, the mark past the end, or nothing.
-use borrow.Author.Rules.{rules}
 use borrow.Author.Tests.{lt-ltb, le-ltb}
 use Rattle.frame_fault_fields.specs.Dump.{cell}
 use Rattle.frame_fault_fields.proofs.Laying.{piece, none, also}

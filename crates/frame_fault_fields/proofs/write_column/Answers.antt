@@ -2,7 +2,6 @@
 use mathlib.Core.Path.{sym}
 use native.Mathlib.Omega.{arith}
 use lib.Seq.{length-take-le}
-use borrow.Author.Rules.{rules}
 use Rattle.frame_listing_fields.specs.Text.{text}
 use Rattle.frame_fault_fields.proofs.Laying.{piece, also}
 use Rattle.frame_fault_fields.proofs.Column.{Spelled, spelled, column_parts}

@@ -1,5 +1,4 @@
 -- The column, or nothing.
-use borrow.Author.Rules.{rules}
 use borrow.Author.Tests.{eq-eqb, ne_eqb}
 use Rattle.frame_fault_fields.specs.Dump.{margin}
 use Rattle.frame_fault_fields.proofs.Laying.{none}
