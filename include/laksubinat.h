@@ -1,7 +1,7 @@
 /*
  * laksubinat.h: Tarantool's frames and MessagePack values read and written, frames taken as a line
  * delivers them, tuples updated, and updates taken back. Link target/staticlib/liblaksubinat.a
- * (`rt staticlib laksubinat`), for x86-64 Linux. Valid C99 and C++11.
+ * (`tests/archive`), for x86-64 Linux. Valid C99 and C++11.
  *
  * What holds of every call, for all bytes, however damaged:
  *   - It ends and answers. `number` is 0 (LAK_OK), or the number of the one refusal that is due.

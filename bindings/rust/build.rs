@@ -1,4 +1,4 @@
-//! Finds `liblaksubinat.a`: in the folder LAKSUBINAT_LIB_DIR, else where `rt staticlib laksubinat` writes it.
+//! Finds `liblaksubinat.a`: in the folder LAKSUBINAT_LIB_DIR, else where `tests/archive` writes it.
 
 use std::env;
 use std::path::{Path, PathBuf};
@@ -13,7 +13,7 @@ fn main() {
     println!("cargo:rerun-if-changed={}", archive.display());
     assert!(
         archive.exists(),
-        "{} is not there: run `rt staticlib laksubinat`, or set LAKSUBINAT_LIB_DIR",
+        "{} is not there: run `tests/archive`, or set LAKSUBINAT_LIB_DIR",
         archive.display()
     );
     println!("cargo:rustc-link-search=native={}", folder.display());

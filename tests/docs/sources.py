@@ -8,10 +8,11 @@ TOP = pathlib.Path(__file__).resolve().parents[2]
 CRATES = TOP / "crates"
 
 
+@functools.cache
 def crates():
     """The crates in the order of crates.txt."""
     lines = (TOP / "crates.txt").read_text().splitlines()
-    return [line.split(":")[0] for line in lines if line and not line.startswith("#")]
+    return [line.split(":")[0].split()[0] for line in lines if line and not line.startswith("#")]
 
 
 def is_program(crate):
@@ -74,7 +75,8 @@ def constants(crate):
 
 def types_used(crate):
     """Types of other crates by the name that src/ uses: name -> crate."""
-    return {name: other for other, name in re.findall(r"^use (\w+)::(\w+);", source(crate), re.M)}
+    found = re.findall(r"^use (\w+)::(?:(\w+)|\{([^}]*)\});", source(crate), re.M)
+    return {name: other for other, one, more in found for name in re.findall(r"\w+", one or more)}
 
 
 # specs/ and proofs/
@@ -90,8 +92,11 @@ class Name:
 def used(text):
     """What the `use` lines of a text bring: the name it has here -> Name, or -> the file that it abbreviates."""
     here = {}
-    pattern = r"^(?:ghost )?use Rattle·(\w+)(?:·\w+)?\.(specs|proofs)\.([\w.-]+?)(?:\.\{([^}]*)\}| as (\w+));?[ \t]*$"
+    pattern = r"^(?:ghost )?use Rattle\.(\w+)\.(specs|proofs)\.([\w.-]+?)(?:\.\{([^}]*)\}| as (\w+));?[ \t]*$"
     for other, kind, path, names, alias in re.findall(pattern, text, re.M):
+        # what the kit's own libraries declare is not the repository's
+        if other not in crates():
+            continue
         parts = path.split(".")
         if alias:
             here[alias] = Name(other, parts[0], "")
@@ -165,7 +170,7 @@ class File:
 
 def mentioned(name, found):
     """Whether a name is among the words; of an operator, its signs."""
-    parts = [part for part in name.split("_") if part] if "_" in name else [name]
+    parts = [part for part in name.split("◌") if part] if "◌" in name else [name]
     return name in found or all(part in found for part in parts)
 
 

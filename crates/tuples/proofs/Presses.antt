@@ -1,14 +1,14 @@
 -- A press beside the update and the undo of the same inputs. Assumes nothing.
-use mathlib.Core.Path.{◌≡◌, refl, sym, ap, ◌∙◌}
+use mathlib.Core.Path.{◌≡◌, refl}
 use mathlib.Core.Bool.{Bool, true, false, ◌&&◌}
-use Prim.Native.Nat.{ℕ, ◌≤◌}
+use Prim.Native.Nat.{ℕ}
 use borrow.Author.Tests.{le-leb}
-use lib.Dec.{leb, eqb}
+use lib.Dec.{leb}
 use lib.ListN.{length, drop}
 use lib.Seq.{take-append_seam}
 use Rattle.msgpack_first_bytes.specs.Bytes.{Bytes, pick}
-use Rattle.tuples.specs.Call.{number_of, Outcome, refusal, bytes, update, undo, refusing, writing, delivered, spoiled_in, with_place, update_call, undo_call}
-use Rattle.tuples.specs.Sequence.{updating, State, on_answer, goes_in, state_after}
+use Rattle.tuples.specs.Call.{number_of, Outcome, refusal, bytes, update, undo, refusing, writing, delivered, with_place, update_call, undo_call}
+use Rattle.tuples.specs.Sequence.{State, on_answer, goes_in, state_after}
 use Rattle.tuples.specs.Press.{pressing, press, PressResult, declining, writing_both, pressed, placed, press_call, on_press, state_after_press, RoomFor, GoesInAlike, tuple_seen, undo_seen, AsTheTwoCalls}
 use Rattle.tuples.specs.declared.Refusal.{Refusal}
 use Rattle.tuples.specs.declared.Refusal.TheVariants.{ShortBuffer}

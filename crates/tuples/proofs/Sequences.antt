@@ -9,7 +9,6 @@ use Rattle.msgpack_first_bytes.specs.Bytes.{Bytes}
 use Rattle.tuples.specs.Tuple.{Fields, plain, fields_of}
 use Rattle.tuples.specs.Call.{Outcome, refusal, bytes, update, undo, delivered, with_place, update_call, undo_call}
 use Rattle.tuples.specs.Sequence.{Event, updating, taking_back, OnPile, State, start, on_answer, goes_in, take_back_call, after_taking_back, state_after, state_after_all, Holds, EachHolds, Demand3}
-use Rattle.msgpack_first_bytes.proofs.Logic.{impossible}
 use Rattle.tuples.proofs.Tuple.{fields-legal, read_plain}
 use Rattle.tuples.proofs.Calls.{TakesBack, went_in, no_place_lem, by_answer}
 

@@ -8,7 +8,7 @@ use Rattle.tuples.specs.Tuple.{Fields, plain, fields_of}
 use Rattle.tuples.specs.Call.{Outcome, refusal, bytes, limited_list, Result, refusing, delivered}
 use Rattle.tuples.specs.Press.{pressing, PressResult, declining, pressed}
 use Rattle.tuples.specs.declared.Refusal.TheVariants.{LongUndo}
-use Rattle.update_running.specs.Carrying.{Came, stops, makes, comes_to, takes_back, rest_of, table_room, work_room}
+use Rattle.update_running.specs.Carrying.{Came, stops, makes, comes_to, rest_of, table_room, work_room}
 use Rattle.update_delivering.specs.declared.Tried.{Tried}
 use Rattle.update_delivering.specs.declared.Tried.TheVariants.{NoRoom, Moved, Refused, Written}
 use Rattle.update_delivering.specs.declared.Pressed.{Pressed}

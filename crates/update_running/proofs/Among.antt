@@ -1,9 +1,8 @@
 -- A plan speaks of fields that are there. Assumes nothing.
 use mathlib.Core.Path.{◌≡◌}
-use Prim.Native.Nat.{ℕ, ◌+◌, ◌-◌, ◌<◌, ◌≤◌, min}
+use Prim.Native.Nat.{ℕ, ◌-◌, ◌<◌}
 use native.Mathlib.Omega.{arith}
-use lib.ListN.{length}
-use lib.Dec.{leb, ltb, eqb}
+use lib.Dec.{eqb}
 use borrow.Author.Tests.{eqb-true}
 use mathlib.Core.Bool.{Bool, true, false}
 use Rattle.msgpack_first_bytes.specs.Bytes.{Bytes, pick}
@@ -14,8 +13,8 @@ use Rattle.update_numbers.specs.declared.Field.{Field, TheVariants.At, TheVarian
 use Rattle.update_operations.specs.declared.Action.{Action, TheVariants.Alter, TheVariants.Assign, TheVariants.Insert, TheVariants.Remove}
 use Rattle.update_altering.specs.Altering.{altered_by}
 use Rattle.update_altering.specs.declared.Altered.{Altered, TheVariants.Is, TheVariants.Refused, TheVariants.Full as NoWork}
-use Rattle.update_planning.specs.Plan.{brought, assigned_by, changed_by, alone, planned_at, planned}
-use Rattle.update_planning.specs.declared.Planned.{Planned, TheVariants.Refuse, TheVariants.Put, TheVariants.Add, TheVariants.Cut}
+use Rattle.update_planning.specs.Plan.{brought, changed_by, alone, planned_at, planned}
+use Rattle.update_planning.specs.declared.Planned.{Planned, TheVariants.Refuse, TheVariants.Put, TheVariants.Add}
 use Rattle.update_running.specs.Steps.{Among}
 
 brought-among : (made : ℕ → Planned) (n a e : ℕ) → ((p : ℕ) → Among (made p) n) → Among (brought made a e) n

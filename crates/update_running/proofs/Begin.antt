@@ -1,16 +1,14 @@
 -- A tuple that is loaded is held, and a run begins. Assumes nothing.
 use mathlib.Core.Path.{◌≡◌, refl, sym, ap, ◌∙◌, subst}
 use mathlib.Core.Bool.{true}
-use mathlib.Core.Logic.{⊎_elim}
 use mathlib.Core.List.{List, [], ◌∷◌, ◌++◌, map, append-nil, append_assoc}
 use mathlib.Core.Option.{Option, none, some}
-use Prim.Native.Nat.{ℕ, suc, ◌+◌, ◌-◌, ◌*◌, ◌^◌, ◌<◌, ◌≤◌}
+use Prim.Native.Nat.{ℕ, suc, ◌+◌, ◌-◌, ◌<◌, ◌≤◌}
 use native.Mathlib.Omega.{arith}
 use borrow.Author.Tests.{le-leb, lt-leb}
-use lib.Dec.{leb}
 use lib.ListN.{length, take, drop, length-append, length-drop}
 use lib.Seq.{length-take-le, take_at, drop_at}
-use Rattle.msgpack_first_bytes.specs.Bytes.{Bytes, pick}
+use Rattle.msgpack_first_bytes.specs.Bytes.{Bytes}
 use Rattle.msgpack_values.specs.Pieces.{joined}
 use Rattle.tuples.specs.Limits.{max_fields, max_tuple, max_operations, max_list}
 use Rattle.tuples.specs.Tuple.{Fields, plain, fields_of}
@@ -18,7 +16,7 @@ use Rattle.tuples.specs.Edit.{fits}
 use Rattle.tuples.specs.declared.Refusal.TheVariants.{BadTuple, BadList}
 use Rattle.tuples.proofs.Legal.{Fits}
 use Rattle.tuples.proofs.Tuple.{fields-legal}
-use Rattle.update_places.specs.Place.{in_list, in_work, place_of, length_of, fields_in, Chain, places_at, Sources}
+use Rattle.update_places.specs.Place.{in_list, place_of, length_of, fields_in, places_at}
 use Rattle.update_places.proofs.Places.{place-small}
 use Rattle.update_places.proofs.Chains.{chain-take, chain-places_at, lengths-places_at, fields-places_at}
 use Rattle.update_table.specs.Table.{window}
@@ -26,8 +24,8 @@ use Rattle.update_loading.specs.Loading.{entries, tabled}
 use Rattle.update_loading.proofs.Judged.{LoadedIs}
 use Rattle.update_running.specs.declared.Stage.{Stage}
 use Rattle.update_running.specs.declared.Ran.{Ran, TheVariants.Refused}
-use Rattle.update_running.specs.Held.{places_now, fields_now, undo_in, in_word, Held}
-use Rattle.update_running.specs.Carrying.{stops, comes_to, rest_of, work_room, Begun, Carries}
+use Rattle.update_running.specs.Held.{fields_now, undo_in, in_word, Held}
+use Rattle.update_running.specs.Carrying.{comes_to, rest_of, work_room, Begun, Carries}
 
 -- ---- refusals
 

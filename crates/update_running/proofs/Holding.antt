@@ -1,26 +1,25 @@
 -- An edit of the table keeps what is held. Assumes nothing.
-use mathlib.Core.Path.{◌≡◌, refl, sym, ap, ◌∙◌, subst}
+use mathlib.Core.Path.{◌≡◌, refl, sym, ap, ◌∙◌}
 use mathlib.Core.Bool.{true}
 use mathlib.Core.List.{List, [], ◌∷◌, ◌++◌, map, map-append, append_assoc, append-nil}
-use Prim.Native.Nat.{ℕ, zero, suc, ◌+◌, ◌-◌, ◌*◌, ◌<◌, ◌≤◌}
+use Prim.Native.Nat.{ℕ, suc, ◌+◌, ◌-◌, ◌≤◌}
 use native.Mathlib.Omega.{arith}
-use lib.ListN.{length, take, drop, get_or, length-append, length-drop}
+use lib.ListN.{length, take, drop, get_or, length-append}
 use lib.Seq.{drop-drop, take-take}
-use Rattle.msgpack_first_bytes.specs.Bytes.{Bytes, pick}
+use Rattle.msgpack_first_bytes.specs.Bytes.{Bytes}
 use Rattle.msgpack_values.specs.Pieces.{joined}
-use Rattle.tuples.specs.Limits.{max_fields, max_tuple, max_operations, max_list}
+use Rattle.tuples.specs.Limits.{max_fields, max_list}
 use Rattle.tuples.specs.Tuple.{Fields}
 use Rattle.tuples.specs.Edit.{spliced, fits}
-use Rattle.update_places.specs.Place.{start_of, length_of, bytes_at, fields_in, Chain, sum}
+use Rattle.update_places.specs.Place.{length_of, bytes_at, fields_in, Chain, sum}
 use Rattle.update_places.proofs.Places.{map-take, map-drop, map-spliced, fields-spliced}
 use Rattle.update_places.proofs.Kept.{kept-one-more, kept_more}
 use Rattle.update_places.proofs.Chains.{chain-take, chain-drop}
-use Rattle.update_table.specs.Table.{window}
 use Rattle.update_table.proofs.Windows.{length-window}
 use Rattle.update_running.specs.declared.Stage.{Stage}
-use Rattle.update_running.specs.Steps.{entry_mark, entry_field, entry_place}
+use Rattle.update_running.specs.Steps.{entry_place}
 use Rattle.update_running.specs.Held.{places_now, fields_now, entry_bytes, undo_in, in_word, Held}
-use Rattle.update_running.proofs.Sums.{length-map, length-joined, sum-append, sum-spliced, length-spliced, front-spliced, rear-spliced}
+use Rattle.update_running.proofs.Sums.{length-joined, sum-spliced, front-spliced, rear-spliced}
 
 pub joined-append : (s t : List Bytes) → joined (s ++ t) ≡ joined s ++ joined t
 unfolding joined

@@ -1,39 +1,38 @@
 -- A plan that is performed is the definition's step, and what is held goes on. Assumes nothing.
-use mathlib.Core.Path.{◌≡◌, refl, sym, ap, ◌∙◌, subst}
-use mathlib.Core.Bool.{Bool, true, false, ◌&&◌}
+use mathlib.Core.Path.{◌≡◌, refl, sym, ap, ◌∙◌}
+use mathlib.Core.Bool.{Bool, true, false}
 use mathlib.Core.List.{List, [], ◌∷◌, ◌++◌, map}
-use Prim.Native.Nat.{ℕ, suc, ◌+◌, ◌-◌, ◌*◌, ◌^◌, ◌<◌, ◌≤◌, min}
+use Prim.Native.Nat.{ℕ, suc, ◌+◌, ◌-◌, ◌*◌, ◌^◌, ◌<◌, ◌≤◌}
 use native.Mathlib.Omega.{arith}
 use native.Mathlib.Numerals.{add-one}
 use borrow.Author.Tests.{leb-true, le-leb}
 use lib.Dec.{leb}
-use lib.ListN.{length, take, drop, get_or, set, length-set, length-append, get_or-map, length-take, length-drop}
+use lib.ListN.{length, take, drop, get_or, set, length-set, length-append, get_or-map, length-drop}
 use lib.Seq.{take-suc-set, take-take, drop-drop, drop-cons, length-take-le}
 use Rattle.msgpack_first_bytes.specs.Bytes.{Bytes, pick}
-use Rattle.msgpack_first_bytes.proofs.Logic.{impossible}
 use Rattle.msgpack_values.specs.Pieces.{joined}
 use Rattle.msgpack_writing.specs.Forms.{unsigned_form, array_header}
-use Rattle.msgpack_writing.proofs.Lengths.{Long, unsigned-long, array_mono}
-use Rattle.tuples.specs.Limits.{max_fields, max_tuple, max_operations, max_list}
-use Rattle.tuples.specs.Tuple.{Fields, plain}
-use Rattle.tuples.specs.Edit.{Edit, put, add, cut, spliced, fits, limited, Step, stop, next, perform, operation_bytes, restored, inverse}
-use Rattle.tuples.specs.declared.Refusal.{Refusal, TheVariants.TooLarge}
+use Rattle.msgpack_writing.proofs.Lengths.{unsigned-long, array_mono}
+use Rattle.tuples.specs.Limits.{max_fields, max_tuple}
+use Rattle.tuples.specs.Tuple.{Fields}
+use Rattle.tuples.specs.Edit.{Edit, spliced, fits, limited, stop, next, perform, operation_bytes, restored, inverse}
+use Rattle.tuples.specs.declared.Refusal.{TheVariants.TooLarge}
 use Rattle.tuples.proofs.Cases.{both_hold}
 use Rattle.tuples.proofs.Legal.{plain-length}
 use Rattle.update_places.specs.Place.{length_of, bytes_at, fields_in, sum}
 use Rattle.update_places.proofs.Places.{map-take, map-drop}
 use Rattle.update_places.proofs.Kept.{drop-take, kept-one-more, kept_more}
-use Rattle.update_table.specs.Table.{window, added, head_added, removed, head_removed}
+use Rattle.update_table.specs.Table.{window, added, head_added, removed}
 use Rattle.update_table.proofs.Windows.{length-window, window-set, get_d_window, length-added, head-added, window-added, length_removed, head-removed, window-removed}
 use Rattle.update_table.proofs.Edits.{Opens, Closes, is_open, is_closed}
 use Rattle.update_planning.specs.declared.Planned.{Planned, TheVariants.Refuse, TheVariants.Full, TheVariants.Put, TheVariants.Add, TheVariants.Cut}
-use Rattle.update_planning.proofs.Plans.{Puts, Adds, Cuts, Fills, Means, Planning}
+use Rattle.update_planning.proofs.Plans.{Puts, Adds, Cuts, Planning}
 use Rattle.update_running.specs.declared.Stage.{Stage}
 use Rattle.update_running.specs.declared.Performed.{Performed, TheVariants.Stop, TheVariants.Full as NoWork, TheVariants.Next}
-use Rattle.update_running.specs.Steps.{entry_of, entry_mark, entry_field, entry_place, laid_from, fitting, head_length, gone_place, bytes_put, put_stage, add_stage, gone_places, gone_bytes, cut_stage, performed, table_after, back_after}
+use Rattle.update_running.specs.Steps.{entry_of, laid_from, fitting, head_length, gone_place, bytes_put, put_stage, add_stage, gone_places, gone_bytes, cut_stage, performed, table_after, back_after}
 use Rattle.update_running.specs.Held.{places_now, fields_now, undo_in, in_word, Held}
-use Rattle.update_running.proofs.Sums.{length-map, length-joined, length-spliced}
-use Rattle.update_running.proofs.Holding.{WholeIn, edited_bytes, Edits, fields-next, held_next}
+use Rattle.update_running.proofs.Sums.{length-map, length-spliced}
+use Rattle.update_running.proofs.Holding.{edited_bytes, Edits, fields-next, held_next}
 use Rattle.update_running.proofs.Undoing.{entry_place_lem, entry-is, entry_removes, place-nothing, operation-length, in_word_lem, length-laid, take-laid, restoring, restoring_whole, restoring_bytes, restored-length}
 
 -- ---- 16, by numbers

@@ -1,5 +1,5 @@
 -- One operation in the course of a run, from what its parts ensure. Assumes nothing.
-use mathlib.Core.Path.{◌≡◌, refl, sym, ap, ◌∙◌, subst}
+use mathlib.Core.Path.{◌≡◌, sym, ap, ◌∙◌}
 use mathlib.Core.List.{List}
 use Prim.Native.Nat.{ℕ}
 use Rattle.msgpack_first_bytes.specs.Bytes.{Bytes}
@@ -9,7 +9,7 @@ use Rattle.update_planning.specs.Plan.{planned, work_after}
 use Rattle.update_planning.specs.declared.Planned.{Planned}
 use Rattle.update_running.specs.declared.Stage.{Stage}
 use Rattle.update_running.specs.declared.Performed.{Performed}
-use Rattle.update_running.specs.declared.Course.{Course, TheVariants.Going, TheVariants.Stopped}
+use Rattle.update_running.specs.declared.Course.{Course, TheVariants.Going}
 use Rattle.update_running.specs.declared.Stepped.{Stepped}
 use Rattle.update_running.specs.Steps.{old_of, performed, table_after, back_after}
 use Rattle.update_running.specs.Course.{plan_in, on_performed, stepped, work_step, table_step, back_step}

@@ -1,8 +1,8 @@
 -- A turn of a run: what `step` leaves is the course of the run after the operation. Assumes nothing.
 use mathlib.Core.Path.{◌≡◌, refl, sym, ap, ◌∙◌, subst}
 use mathlib.Core.Bool.{Bool, true, false}
-use mathlib.Core.Logic.{inl, inr}
-use mathlib.Core.List.{List, [], ◌∷◌, ◌++◌, map, append-nil}
+use mathlib.Core.Logic.{inr}
+use mathlib.Core.List.{List, [], map, append-nil}
 use mathlib.Core.Option.{Option, none, some}
 use Prim.Native.Nat.{ℕ, suc, ◌+◌, ◌-◌, ◌<◌, ◌≤◌}
 use native.Mathlib.Omega.{arith}
@@ -10,11 +10,11 @@ use borrow.Author.Tests.{lt-ltb}
 use lib.ListN.{length, take, get_or}
 use Rattle.msgpack_first_bytes.specs.Bytes.{Bytes, pick}
 use Rattle.msgpack_first_bytes.proofs.Logic.{impossible, by_ltb}
-use Rattle.tuples.specs.Limits.{max_fields, max_tuple, max_operations, max_list}
+use Rattle.tuples.specs.Limits.{max_operations, max_list}
 use Rattle.tuples.specs.Tuple.{Fields}
 use Rattle.tuples.specs.Operation.{Operation}
 use Rattle.tuples.specs.Edit.{plan_of, plans, undo_of}
-use Rattle.tuples.specs.declared.Refusal.{Refusal, TheVariants.TooLarge}
+use Rattle.tuples.specs.declared.Refusal.{TheVariants.TooLarge}
 use Rattle.tuples.proofs.Legal.{limited-next}
 use Rattle.update_places.specs.Place.{length_of, bytes_at, Sources, sum}
 use Rattle.update_numbers.specs.declared.Field.{Field, TheVariants.At}
@@ -22,20 +22,20 @@ use Rattle.update_operations.specs.declared.Action.{Action}
 use Rattle.update_operations.proofs.Opening.{IsOperation}
 use Rattle.update_planning.specs.Plan.{planned, work_after}
 use Rattle.update_planning.specs.declared.Planned.{Planned, TheVariants.Refuse, TheVariants.Full as NoPlan, TheVariants.Put, TheVariants.Add, TheVariants.Cut}
-use Rattle.update_planning.proofs.Plans.{Planning, Fills, plan_means}
+use Rattle.update_planning.proofs.Plans.{Planning, plan_means}
 use Rattle.update_running.specs.declared.Stage.{Stage}
 use Rattle.update_running.specs.declared.Performed.{Performed, TheVariants.Stop, TheVariants.Full as NoWork, TheVariants.Next as GoesOn}
 use Rattle.update_running.specs.declared.Course.{Course, TheVariants.Going, TheVariants.Stopped}
 use Rattle.update_running.specs.declared.Ran.{Ran}
 use Rattle.update_running.specs.declared.Stepped.{Stepped, TheVariants.Full, TheVariants.Next}
-use Rattle.update_running.specs.Steps.{old_of, gone_place, fitting, bytes_put, put_stage, add_stage, performed, table_after, back_after, Sound}
+use Rattle.update_running.specs.Steps.{old_of, fitting, bytes_put, put_stage, add_stage, performed, table_after, back_after, Sound}
 use Rattle.update_running.specs.Held.{places_now, fields_now, Held}
-use Rattle.update_running.specs.Course.{plan_in, on_performed, stepped, work_step, table_step, back_step, CourseSound}
+use Rattle.update_running.specs.Course.{plan_in, on_performed, CourseSound}
 use Rattle.update_running.specs.Carrying.{rest_of, takes_back, work_room, Stalled, Begun, Carries, finishing}
 use Rattle.update_running.proofs.Sums.{length-joined}
 use Rattle.update_running.proofs.Performing.{fields-length, within, gone_bytes_lem, next_fits, Performs, performs}
 use Rattle.update_running.proofs.Stepping.{Steps}
-use Rattle.update_running.proofs.Turns.{later_back, Sofar, HeldUp, InCourse, course_passed, course_stops, course_goes, course_full, course_over, course_ends}
+use Rattle.update_running.proofs.Turns.{later_back, Sofar, InCourse, course_passed, course_stops, course_goes, course_full, course_over, course_ends}
 
 -- ---- what is held is sound
 

@@ -1,23 +1,21 @@
 -- A run goes from one operation to the next. Assumes nothing.
 use mathlib.Core.Path.{◌≡◌, refl, sym, ap, ◌∙◌, subst}
-use mathlib.Core.Bool.{Bool, true, false, ◌&&◌}
 use mathlib.Core.Logic.{◌⊎◌, inl, inr, ⊎_elim}
 use mathlib.Core.List.{List, [], ◌∷◌, ◌++◌, append_assoc}
 use mathlib.Core.Option.{Option, none, some}
 use Prim.Native.Nat.{ℕ, suc, ◌+◌, ◌-◌, ◌<◌, ◌≤◌}
 use native.Mathlib.Omega.{arith}
 use native.Mathlib.Numerals.{add-one}
-use borrow.Author.Tests.{le-leb, leb-true}
-use lib.Dec.{leb}
+use borrow.Author.Tests.{le-leb}
 use lib.ListN.{length, drop, get_or, length-append}
-use Rattle.msgpack_first_bytes.specs.Bytes.{Bytes, pick}
+use Rattle.msgpack_first_bytes.specs.Bytes.{Bytes}
 use Rattle.msgpack_first_bytes.proofs.Logic.{impossible}
 use Rattle.msgpack_values.specs.Pieces.{joined}
-use Rattle.tuples.specs.Limits.{max_fields, max_tuple, max_operations, max_list}
+use Rattle.tuples.specs.Limits.{max_tuple, max_operations, max_list}
 use Rattle.tuples.specs.Tuple.{Fields, plain}
-use Rattle.tuples.specs.Decoding.{Got, fails, gets}
+use Rattle.tuples.specs.Decoding.{fails, gets}
 use Rattle.tuples.specs.Operation.{Operation, operation, before, operations}
-use Rattle.tuples.specs.Edit.{Edit, put, plan_of, plans, step, Step, stop, next, perform, limited, fits, spliced, Run, refused, done, run, onward, inverse, operation_bytes, on_step, undo_of}
+use Rattle.tuples.specs.Edit.{Edit, plan_of, plans, step, Step, stop, next, perform, limited, spliced, run, onward, inverse, operation_bytes, undo_of}
 use Rattle.tuples.specs.declared.Refusal.{Refusal, TheVariants.BadList}
 use Rattle.tuples.proofs.Legal.{Legal, limited-next, plain-length}
 use Rattle.tuples.proofs.Taking.{got_legal}
@@ -27,10 +25,10 @@ use Rattle.update_planning.proofs.Plans.{Fills}
 use Rattle.update_running.specs.declared.Stage.{Stage}
 use Rattle.update_running.specs.declared.Course.{Course, TheVariants.Going, TheVariants.Stopped}
 use Rattle.update_running.specs.Held.{fields_now, Held}
-use Rattle.update_running.specs.Carrying.{Came, stops, makes, came_by, comes_to, takes_back, rest_of, work_room, Stalled, Carried, Carries, finishes_by}
+use Rattle.update_running.specs.Carrying.{Came, stops, makes, came_by, comes_to, takes_back, rest_of, work_room, Stalled, Carries, finishes_by}
 use Rattle.update_running.proofs.Holding.{joined-append, edited_bytes}
 use Rattle.update_running.proofs.Undoing.{operation-length}
-use Rattle.update_running.proofs.Performing.{one_field, one-joined, fields-length}
+use Rattle.update_running.proofs.Performing.{one_field, one-joined}
 
 -- ---- the operations that are left
 

@@ -7,7 +7,7 @@ use Rattle.msgpack_values.specs.Pieces.{Each}
 use Rattle.tuples.specs.Limits.{max_fields, max_tuple, field_depth, max_operations, max_list}
 use Rattle.tuples.specs.Tuple.{Fields, plain}
 use Rattle.tuples.specs.Operation.{Operation, operations}
-use Rattle.tuples.specs.Edit.{Plan, plans, Run, refused, done, run, undo_of}
+use Rattle.tuples.specs.Edit.{plans, Run, refused, done, run, undo_of}
 use Rattle.tuples.specs.declared.Refusal.{Refusal}
 use Rattle.tuples.specs.declared.Refusal.TheVariants.{BadTuple, BadList}
 use Rattle.update_places.specs.Place.{Sources}

@@ -1,5 +1,5 @@
 -- Inner: one operation of a list, in the course of a run.
-use Rattle.std.specs.Prelude.{ℕ, List, length}
+use Rattle.std.specs.Prelude.{ℕ, List}
 use Rattle.msgpack_first_bytes.specs.Bytes.{Bytes}
 use Rattle.update_numbers.specs.declared.Field.{Field}
 use Rattle.update_operations.specs.declared.Action.{Action}

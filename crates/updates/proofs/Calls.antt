@@ -1,25 +1,25 @@
 -- From what a list came to, to what the calls show. Assumes nothing.
 use mathlib.Core.Path.{◌≡◌, refl, sym, ap, ◌∙◌, subst}
-use mathlib.Core.Bool.{Bool, true, false}
+use mathlib.Core.Bool.{true}
 use mathlib.Core.Logic.{◌⊎◌, inl, inr, ⊎_elim}
-use mathlib.Core.List.{List, [], ◌++◌}
+use mathlib.Core.List.{List, []}
 use mathlib.Core.Option.{Option, none, some}
-use Prim.Native.Nat.{ℕ, ◌+◌, ◌-◌, ◌<◌, ◌≤◌}
+use Prim.Native.Nat.{ℕ, ◌<◌, ◌≤◌}
 use native.Mathlib.Omega.{arith}
 use native.Mathlib.Nat.{sub-zero}
 use borrow.Author.Tests.{le-leb, lt-leb}
-use lib.Dec.{leb, eqb}
+use lib.Dec.{eqb}
 use lib.ListN.{length, take, drop, length-append, length-drop}
 use lib.Seq.{take_at}
-use Rattle.msgpack_first_bytes.specs.Bytes.{Bytes, pick}
+use Rattle.msgpack_first_bytes.specs.Bytes.{Bytes}
 use Rattle.msgpack_first_bytes.proofs.Logic.{impossible}
 use Rattle.msgpack_values.specs.Spoiled.{no_place}
-use Rattle.tuples.specs.Limits.{max_fields, max_tuple, max_operations, max_list}
+use Rattle.tuples.specs.Limits.{max_tuple, max_operations, max_list}
 use Rattle.tuples.specs.Tuple.{Fields, plain, fields_of}
 use Rattle.tuples.specs.Operation.{Operation, operations_of}
 use Rattle.tuples.specs.Edit.{Run, refused, done, run, plans}
-use Rattle.tuples.specs.Call.{number_of, Outcome, refusal, bytes, judged, on_run, update_of, undo_list_of, limited_list, update, undo, Result, refusing, writing, delivered, spoiled_in, with_place, update_call, undo_call}
-use Rattle.tuples.specs.Press.{pressing, press, Pressing, PressResult, declining, pressed, placed, press_call}
+use Rattle.tuples.specs.Call.{number_of, Outcome, bytes, judged, on_run, update_of, undo_list_of, limited_list, update, undo, Result, refusing, writing, delivered, spoiled_in, with_place}
+use Rattle.tuples.specs.Press.{pressing, press, PressResult, declining, pressed, placed, press_call}
 use Rattle.tuples.specs.declared.Refusal.{Refusal, TheVariants.LongUndo, TheVariants.BadTuple}
 use Rattle.tuples.proofs.Calls.{numbered}
 use Rattle.tuples.proofs.Decode.{list_fine}
@@ -34,7 +34,7 @@ use Rattle.update_running.specs.Carrying.{Came, stops, makes, came_by, comes_to,
 use Rattle.msgpack_writing.specs.Put.{next}
 use Rattle.msgpack_writing.specs.Put as Writing
 use Rattle.msgpack_writing.proofs.Put.{wrote, through}
-use Rattle.update_delivering.specs.Delivering.{Rebased, update_by, undo_by, long_by, written, both_written, Lacks, TriesUpdate, TriesUndo, TriesPress}
+use Rattle.update_delivering.specs.Delivering.{Rebased, update_by, undo_by, long_by, both_written, Lacks, TriesUpdate, TriesUndo, TriesPress}
 use Rattle.update_delivering.specs.declared.Tried.{Tried, TheVariants.NoRoom as NotTried, TheVariants.Moved, TheVariants.Refused as TriedRefused, TheVariants.Written as TriedWritten}
 use Rattle.update_delivering.specs.declared.Pressed.{Pressed, TheVariants.NoRoom as NoPress, TheVariants.Refused as Declined, TheVariants.Written as Both}
 use Rattle.updates.specs.declared.Front.{Front}

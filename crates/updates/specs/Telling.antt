@@ -1,16 +1,15 @@
 -- Inner: what a call comes to, in arrays of some room.
-use Rattle.std.specs.Prelude.{ℕ, ◌≤◌, ◌≡◌, length}
+use Rattle.std.specs.Prelude.{ℕ, ◌≤◌, ◌≡◌}
 use Rattle.msgpack_first_bytes.specs.Bytes.{Bytes}
 use Rattle.msgpack_values.specs.Spoiled.{no_place}
 use Rattle.tuples.specs.Limits.{max_operations}
 use Rattle.tuples.specs.Tuple.{fields_of}
 use Rattle.tuples.specs.Operation.{operations_of}
-use Rattle.tuples.specs.Call.{number_of, Outcome, refusal, Result, refusing, delivered, spoiled_in}
-use Rattle.tuples.specs.Press.{Pressing, PressResult, declining, pressed}
+use Rattle.tuples.specs.Call.{number_of, Outcome, refusing, delivered, spoiled_in}
+use Rattle.tuples.specs.Press.{Pressing, declining, pressed}
 use Rattle.tuples.specs.declared.Answer.{Answer}
 use Rattle.tuples.specs.declared.PressAnswer.{PressAnswer}
-use Rattle.tuples.specs.declared.Refusal.{Refusal}
-use Rattle.tuples.specs.declared.Refusal.TheVariants.{TooLarge, LongUndo}
+use Rattle.tuples.specs.declared.Refusal.TheVariants.{TooLarge}
 use Rattle.update_answers.specs.Seen.{refusal_of, answer_at}
 use Rattle.update_running.specs.Carrying.{Came, comes_to, rest_of}
 use Rattle.update_delivering.specs.Delivering.{long_by, written, both_written}

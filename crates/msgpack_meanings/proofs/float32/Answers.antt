@@ -3,7 +3,6 @@ use mathlib.Core.Path.{sym, ap}
 use lib.Ieee.{Float, binary32, of_bits, div}
 use Rattle.msgpack_meanings.specs.declared.Meaning.TheVariants.{Float32}
 use Rattle.msgpack_meanings.proofs.Nans.{allowed, nan_is}
-use borrow.Author.Rules.{rules}
 use Rattle.msgpack_meanings.proofs.float32.Goals as goal
 
 pub float_from_bits-result : goal.float_from_bits-result

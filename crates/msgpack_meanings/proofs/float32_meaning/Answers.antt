@@ -2,12 +2,11 @@
 use native.Mathlib.Omega.{arith}
 use Prim.Native.Nat.{◌^◌, ◌<◌}
 use Rattle.msgpack_meanings.specs.Meaning.{of_float32}
-use borrow.Author.Rules.{rules}
 use Rattle.msgpack_meanings.proofs.float32_meaning.Goals as goal
 
 pub overflow_cast-n : goal.overflow_cast-n
 unfolding of_float32
-overflow_cast-n c = let n = c.n-1.given in let b : n.0.0 < 2 ^ 32 = rw n.1 at c.number_at.ensures.1 in omega arith
+overflow_cast-n c = let b : c.in-Is.n < 2 ^ 32 = c.in-Is.ensures.1 in omega arith
 
 pub returns-in-Is : goal.returns-in-Is
 unfolding of_float32

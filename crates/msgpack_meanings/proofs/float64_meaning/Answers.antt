@@ -1,6 +1,5 @@
 -- The number of the float's bytes, as its bits.
 use Rattle.msgpack_meanings.specs.Meaning.{of_float64}
-use borrow.Author.Rules.{rules}
 use Rattle.msgpack_meanings.proofs.float64_meaning.Goals as goal
 
 pub returns-in-Is : goal.returns-in-Is

@@ -5,7 +5,6 @@ use Rattle.msgpack_scalars.specs.Integer.{integer, shift_integer}
 use Rattle.msgpack_meanings.specs.Meaning.{of_integer}
 use Rattle.msgpack_scalars.specs.declared.Integer.{Integer}
 use Rattle.msgpack_scalars.specs.declared.Integer.TheVariants.{Is, Cut, Other}
-use borrow.Author.Rules.{rules}
 use Rattle.msgpack_meanings.proofs.integer_meaning.Goals.{After-integer_at}
 use Rattle.msgpack_meanings.proofs.integer_meaning.Goals as goal
 

@@ -3,16 +3,14 @@ use native.Mathlib.Omega.{arith}
 use mathlib.Core.Path.{sym, ◌∙◌}
 use Rattle.msgpack_meanings.specs.Meaning.{meaning}
 use Rattle.msgpack_meanings.proofs.Whole.{whole-within, scalar_whole}
-use borrow.Author.Rules.{rules}
 use Rattle.msgpack_meanings.proofs.meaning_of.Goals as goal
 
 pub scalar_meaning-requires : goal.scalar_meaning-requires
 scalar_meaning-requires c =
-    let d = c.before in
-    let p = d.requires in
-    let f = c.kind-1.given in
-    let b = d.type_inv.s 0 in
-    (scalar_whole 16 _ _ f.0.0 _ _ (omega arith) p (sym f.1 ∙ d.form_of.ensures), (whole-within 16 _ _ p).1)
+    let p = c.requires in
+    let f = c.in-Scalar in
+    let b = c.type_inv.s 0 in
+    (scalar_whole 16 _ _ f.kind _ _ (omega arith) p (sym f.is ∙ c.form_of.ensures), (whole-within 16 _ _ p).1)
 
 pub bounds-s-0 : goal.bounds-s-0
 unfolding meaning

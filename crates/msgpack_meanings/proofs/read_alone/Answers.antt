@@ -10,7 +10,6 @@ use Rattle.msgpack_meanings.specs.declared.Alone.{Alone}
 use Rattle.msgpack_meanings.specs.declared.Meaning.TheVariants.{Absent}
 use Rattle.msgpack_meanings.specs.Meaning.{alone_depth, alone, alone_by}
 use Rattle.msgpack_meanings.proofs.Whole.{shift_none}
-use borrow.Author.Rules.{rules}
 use Rattle.msgpack_meanings.proofs.read_alone.Goals.{After-read_value-read}
 use Rattle.msgpack_meanings.proofs.read_alone.Goals as goal
 

@@ -5,7 +5,6 @@ use mathlib.Core.Path.{◌≡◌, subst}
 use Rattle.msgpack_first_bytes.specs.FirstByte.{same_kind}
 use Rattle.msgpack_first_bytes.specs.declared.Kind.{Kind}
 use Rattle.msgpack_meanings.specs.Meaning.{type_bytes, scalar_meaning}
-use borrow.Author.Rules.{rules}
 use Rattle.msgpack_meanings.proofs.scalar_meaning.Goals.{In-Ext}
 use Rattle.msgpack_meanings.proofs.scalar_meaning.Goals as goal
 

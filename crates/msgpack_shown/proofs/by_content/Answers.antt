@@ -1,5 +1,4 @@
 -- What is told by its bits, with the start and size of its content in their stead.
-use borrow.Author.Rules.{rules}
 use Rattle.msgpack_shown.proofs.by_content.Goals as goal
 
 pub returns : goal.returns

@@ -1,6 +1,5 @@
 -- By each sign.
 use Rattle.msgpack_shown.specs.Shown.{integer_shown}
-use borrow.Author.Rules.{rules}
 use Rattle.msgpack_shown.proofs.integer_shown.Goals as goal
 
 pub returns-in-FromZero : goal.returns-in-FromZero

@@ -1,6 +1,5 @@
 -- By each meaning.
 use Rattle.msgpack_shown.specs.Shown.{meaning_shown}
-use borrow.Author.Rules.{rules}
 use Rattle.msgpack_shown.proofs.meaning_shown.Goals as goal
 
 pub returns-in-Absent : goal.returns-in-Absent

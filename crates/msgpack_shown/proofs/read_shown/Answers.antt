@@ -1,6 +1,5 @@
 -- What the reader answers, as numbers.
 use Rattle.msgpack_shown.specs.Shown.{shown}
-use borrow.Author.Rules.{rules}
 use Rattle.msgpack_shown.proofs.read_shown.Goals as goal
 
 pub returns : goal.returns

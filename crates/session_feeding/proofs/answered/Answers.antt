@@ -1,5 +1,4 @@
 -- The fields one by one.
-use Rattle.std.proofs.Common.{rules}
 use Rattle.sessions.specs.Session.{fed}
 use Rattle.session_feeding.proofs.answered.Goals as goal
 

@@ -1,5 +1,4 @@
 -- Read, or missing.
-use Rattle.std.proofs.Common.{rules}
 use Rattle.frames.specs.Cascade.{check}
 use Rattle.session_feeding.proofs.contents.Goals as goal
 

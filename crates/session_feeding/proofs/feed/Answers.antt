@@ -1,5 +1,5 @@
 -- 19, a repeated refusal, or the frame at hand.
-use Rattle.std.proofs.Common.{take, sym, refl, arith, length-take-le, rules, le-ltb, lt-ltb, eq-eqb, ne_eqb}
+use Rattle.std.proofs.Common.{take, sym, refl, arith, length-take-le, le-ltb, lt-ltb, eq-eqb, ne_eqb}
 use Rattle.sessions.specs.Session.{begun, feed_of, carry_of}
 use Rattle.session_feeding.proofs.Steps.{take_least, waits, answer-is}
 use Rattle.session_feeding.proofs.feed.Goals as goal

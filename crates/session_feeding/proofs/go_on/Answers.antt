@@ -1,5 +1,5 @@
 -- A refused size, or the contents that it promises.
-use Rattle.std.proofs.Common.{◌≡◌, length, take, sym, ◌∙◌, arith, length-take-le, rules}
+use Rattle.std.proofs.Common.{◌≡◌, length, take, sym, ◌∙◌, arith, length-take-le}
 use Rattle.session_feeding.proofs.Steps.{refused-stop, refused-read, refused_settled, promised_stop, promised_few, come, promised_settled, carry_is, promised_answer}
 use Rattle.session_feeding.proofs.go_on.Goals as goal
 

@@ -1,5 +1,4 @@
 -- As it is defined.
-use Rattle.std.proofs.Common.{rules}
 use Rattle.sessions.specs.Session.{idle}
 use Rattle.session_feeding.proofs.idle.Goals as goal
 

@@ -1,5 +1,5 @@
 -- Nothing, what is missing, or all of the piece.
-use Rattle.std.proofs.Common.{sym, refl, ap, ◌∙◌, arith, length-take-le, rules, eq-eqb, ne_eqb}
+use Rattle.std.proofs.Common.{sym, refl, ap, ◌∙◌, arith, length-take-le, eq-eqb, ne_eqb}
 use Rattle.msgpack_first_bytes.specs.Bytes.{Bytes}
 use Rattle.msgpack_writing.specs.Put.{put}
 use Rattle.msgpack_writing.proofs.Put.{nothing}

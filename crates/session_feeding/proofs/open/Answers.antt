@@ -1,5 +1,5 @@
 -- By the carry buffer's length.
-use Rattle.std.proofs.Common.{rules, le-ltb, lt-ltb}
+use Rattle.std.proofs.Common.{le-ltb, lt-ltb}
 use Rattle.sessions.specs.Session.{opening}
 use Rattle.session_feeding.proofs.open.Goals as goal
 

@@ -1,5 +1,5 @@
 -- Each way that a frame is answered.
-use Rattle.std.proofs.Common.{arith, rules, eq-eqb, ne_eqb}
+use Rattle.std.proofs.Common.{arith, eq-eqb, ne_eqb}
 use Rattle.sessions.specs.Session.{session_after}
 use Rattle.session_feeding.proofs.session_after.Goals as goal
 

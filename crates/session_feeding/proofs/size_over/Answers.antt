@@ -1,5 +1,5 @@
 -- The piece alone, or nine bytes of both.
-use Rattle.std.proofs.Common.{◌≡◌, ◌+◌, length, take, sym, refl, ap, ◌∙◌, arith, length-take-le, rules}
+use Rattle.std.proofs.Common.{◌≡◌, ◌+◌, length, take, sym, refl, ap, ◌∙◌, arith, length-take-le}
 use Rattle.frames.specs.Reading.{size_of}
 use Rattle.msgpack_first_bytes.specs.Bytes.{Bytes}
 use Rattle.msgpack_writing.specs.Put.{put}
@@ -23,11 +23,11 @@ slice_bounds-write_bytes-end-4 c =
 pub slice_bounds-read_size-end : goal.slice_bounds-read_size-end
 slice_bounds-read_size-end c =
     let e = c.write_bytes-2.ensures.1 in
-    let l : length c.write_bytes-2.new.0 ≡ 9 =
+    let l : length c.write_bytes-2.new.out ≡ 9 =
     ap length c.write_bytes-2.ensures.1 ∙ length-put _ _ _ ∙ ap length c.write_bytes.ensures.1 ∙ length-put _ _ _ in
     let i = c.least-b.ensures in
     let j = c.least-a.ensures in
-    sym (length-take-le _ c.write_bytes-2.new.0 (omega arith))
+    sym (length-take-le _ c.write_bytes-2.new.out (omega arith))
 
 pub returns : goal.returns
 returns c =

@@ -1,5 +1,5 @@
 -- All, or what is missing.
-use Rattle.std.proofs.Common.{rules, eq-eqb, ne_eqb}
+use Rattle.std.proofs.Common.{eq-eqb, ne_eqb}
 use Rattle.session_feeding.proofs.taken.Goals as goal
 
 pub returns-then-number-eq1 : goal.returns-then-number-eq1

@@ -1,5 +1,5 @@
 -- The front of the one or the other.
-use Rattle.std.proofs.Common.{sym, arith, length-take-le, rules}
+use Rattle.std.proofs.Common.{sym, arith, length-take-le}
 use Rattle.sessions.specs.Session.{view_of}
 use Rattle.session_feeding.proofs.Steps.{take_least}
 use Rattle.session_feeding.proofs.view.Goals as goal

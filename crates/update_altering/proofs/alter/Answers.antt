@@ -2,7 +2,6 @@
 use mathlib.Core.Path.{refl}
 use Rattle.update_altering.specs.Altering.{changed}
 use Rattle.update_altering.proofs.Edits as Edits
-use borrow.Author.Rules.{rules}
 use Rattle.update_altering.proofs.alter.Goals as goal
 
 pub returns-in-Sum : goal.returns-in-Sum

@@ -6,7 +6,6 @@ use lib.ListN.{drop, length-drop}
 use Rattle.update_places.specs.Place.{in_work}
 use Rattle.update_places.proofs.Runs.{placed}
 use Rattle.update_altering.proofs.Strings as Strings
-use borrow.Author.Rules.{rules}
 use Rattle.update_altering.proofs.append.Goals as goal
 
 pub overflow_add-at : goal.overflow_add-at

@@ -1,8 +1,7 @@
 -- What was copied, with what stands around it, is the array; what is read stands before it.
 use mathlib.Core.Path.{◌≡◌, refl, ap, ◌∙◌}
-use Prim.Native.Nat.{◌-◌, ◌≤◌}
 use native.Mathlib.Omega.{arith}
-use lib.ListN.{length, drop, length-set}
+use lib.ListN.{drop, length-set}
 use lib.Seq.{paste, paste-zero}
 use Rattle.update_altering.proofs.Strings.{up_turn}
 use Rattle.update_altering.proofs.copy_up.Goals as goal

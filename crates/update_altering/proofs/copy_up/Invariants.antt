@@ -1,5 +1,5 @@
 -- What was copied, with what stands around it, is the array; what is read stands before it.
-use Rattle.std.proofs.Common.{◌≡◌, ◌-◌, ◌≤◌, length, drop, ℕ}
+use Rattle.std.proofs.Common.{◌≡◌, ◌-◌, ◌≤◌, length, drop}
 use Rattle.std.proofs.Math.Seq.{paste}
 use Rattle.update_altering.proofs.copy_up.Given as goal
 

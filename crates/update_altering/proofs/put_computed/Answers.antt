@@ -1,7 +1,6 @@
 -- A number, or none.
 use mathlib.Core.Path.{refl, subst}
 use Rattle.update_computing.specs.Computing.{InReach}
-use borrow.Author.Rules.{rules}
 use Rattle.update_altering.proofs.put_computed.Goals as goal
 
 pub put_number-requires : goal.put_number-requires

@@ -1,6 +1,5 @@
 -- Nothing is written where a number has no room, and only there.
 use Rattle.update_altering.proofs.Numbers as Numbers
-use borrow.Author.Rules.{rules}
 use Rattle.update_altering.proofs.put_number.Goals as goal
 
 pub returns-then-end-used : goal.returns-then-end-used

@@ -1,6 +1,5 @@
 -- Header and pieces, one after the other.
 use Rattle.update_altering.proofs.Strings as Strings
-use borrow.Author.Rules.{rules}
 use Rattle.update_altering.proofs.put_string.Goals as goal
 
 pub append-at_middle-requires : goal.append-at_middle-requires

@@ -1,6 +1,6 @@
 -- What is before the position, the argument, and what is after what goes.
-use mathlib.Core.Path.{◌≡◌, refl, sym, ap, ◌∙◌, subst}
-use Prim.Native.Nat.{ℕ, ◌+◌, ◌-◌, ◌^◌, ◌<◌}
+use mathlib.Core.Path.{◌≡◌, refl, sym, ◌∙◌, subst}
+use Prim.Native.Nat.{ℕ, ◌-◌, ◌^◌, ◌<◌}
 use native.Mathlib.Omega.{arith}
 use lib.ListN.{length, take}
 use Rattle.msgpack_first_bytes.specs.Bytes.{Bytes}
@@ -9,7 +9,6 @@ use Rattle.update_parts.specs.Part.{span_by}
 use Rattle.update_parts.proofs.Leaving.{span_order}
 use Rattle.update_places.specs.Place.{bytes_from}
 use Rattle.update_altering.proofs.Strings as Strings
-use borrow.Author.Rules.{rules}
 use Rattle.update_parts.specs.declared.Span.{Span, TheVariants.Is as IsSpan}
 use Rattle.update_altering.proofs.splice.Goals as goal
 

@@ -6,7 +6,6 @@ use Rattle.tuples.specs.Decoding.{string}
 use Rattle.update_parts.specs.Part.{span_by}
 use Rattle.update_parts.specs.declared.Span.{Span}
 use Rattle.update_places.proofs.Runs.{from-tuple, from_list, from-work}
-use borrow.Author.Rules.{rules}
 use Rattle.update_altering.proofs.string_in.Goals as goal
 
 abbrev read : Bytes → Span

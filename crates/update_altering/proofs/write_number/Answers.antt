@@ -1,5 +1,4 @@
 -- By its sign.
-use borrow.Author.Rules.{rules}
 use Rattle.update_altering.proofs.write_number.Goals as goal
 
 pub returns-in-FromZero : goal.returns-in-FromZero

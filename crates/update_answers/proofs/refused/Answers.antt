@@ -1,5 +1,4 @@
 use Rattle.msgpack_values.specs.Spoiled.{no_place}
-use borrow.Author.Rules.{rules}
 use Rattle.update_answers.proofs.refused.Goals as goal
 
 pub returns : goal.returns

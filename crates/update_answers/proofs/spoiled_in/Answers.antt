@@ -1,5 +1,4 @@
 -- By the number.
-use borrow.Author.Rules.{rules}
 use borrow.Author.Tests.{eq-eqb, ne_eqb}
 use Rattle.tuples.specs.Call.{spoiled_in}
 use Rattle.update_answers.proofs.spoiled_in.Goals as goal

@@ -1,6 +1,5 @@
 -- The place alone is another.
 use mathlib.Core.Path.{ap}
-use borrow.Author.Rules.{rules}
 use Rattle.msgpack_values.specs.declared.OptionalNumber.{OptionalNumber}
 use Rattle.update_answers.specs.Seen.{answer_at}
 use Rattle.update_answers.proofs.with_place.Goals as goal

@@ -2,7 +2,6 @@
 use native.Mathlib.Omega.{arith}
 use Rattle.update_places.specs.Place.{bytes_from}
 use Rattle.update_computing.proofs.Numbers as Numbers
-use borrow.Author.Rules.{rules}
 use Rattle.update_computing.proofs.bits_of.Goals as goal
 
 pub returns-in_default : goal.returns-in_default

@@ -2,7 +2,6 @@
 use mathlib.Core.Path.{◌≡◌, sym, ap}
 use Rattle.update_computing.specs.Computing.{bitwise_of}
 use Rattle.update_operations.specs.declared.Bitwise.{Bitwise}
-use borrow.Author.Rules.{rules}
 use Prim.Native.Nat.{ℕ}
 use Rattle.update_computing.proofs.combine.Goals as goal
 

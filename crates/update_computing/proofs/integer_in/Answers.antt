@@ -6,7 +6,6 @@ use Rattle.tuples.specs.Decoding.{any_integer}
 use Rattle.update_parts.specs.Part.{signed_by}
 use Rattle.update_parts.specs.declared.Signed.{Signed}
 use Rattle.update_places.proofs.Runs.{from-tuple, from_list, from-work}
-use borrow.Author.Rules.{rules}
 use Rattle.update_computing.proofs.integer_in.Goals as goal
 
 abbrev read : Bytes → Signed

@@ -6,7 +6,6 @@ use Rattle.tuples.specs.Decoding.{at_least}
 use Rattle.update_parts.specs.Part.{natural_by}
 use Rattle.update_parts.specs.declared.Natural.{Natural}
 use Rattle.update_places.proofs.Runs.{from-tuple, from_list, from-work}
-use borrow.Author.Rules.{rules}
 use Rattle.update_computing.proofs.natural_in.Goals as goal
 
 abbrev read : Bytes → Natural

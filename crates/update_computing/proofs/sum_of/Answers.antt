@@ -1,7 +1,6 @@
 -- The field and the argument, as integers.
 use Rattle.update_places.specs.Place.{bytes_from}
 use Rattle.update_computing.proofs.Numbers as Numbers
-use borrow.Author.Rules.{rules}
 use Rattle.update_computing.proofs.sum_of.Goals as goal
 
 pub returns-in_default : goal.returns-in_default

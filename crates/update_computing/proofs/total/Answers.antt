@@ -1,5 +1,4 @@
 -- A sum or a difference.
-use borrow.Author.Rules.{rules}
 use Rattle.update_computing.proofs.total.Goals as goal
 
 pub returns-then-minus : goal.returns-then-minus

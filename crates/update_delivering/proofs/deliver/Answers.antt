@@ -1,6 +1,5 @@
 use mathlib.Core.Path.{◌∙◌}
 use native.Mathlib.Omega.{arith}
-use borrow.Author.Rules.{rules}
 use Rattle.tuples.specs.Tuple.{plain}
 use Rattle.update_delivering.specs.Gathering.{shown}
 use Rattle.update_delivering.proofs.Delivered.{too_short_lem, all-written}

@@ -1,6 +1,5 @@
 use mathlib.Core.Path.{◌∙◌}
 use native.Mathlib.Omega.{arith}
-use borrow.Author.Rules.{rules}
 use Rattle.update_delivering.proofs.Delivered.{long-declined, out-short, undo-short, both-written, undo-limited, undo-refused, press-is}
 use Rattle.update_delivering.proofs.Tuples.{few_bytes}
 use Rattle.update_delivering.proofs.deliver_both.Goals as goal

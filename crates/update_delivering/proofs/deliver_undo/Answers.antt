@@ -1,6 +1,5 @@
 use mathlib.Core.Path.{sym, ap, ◌∙◌}
 use native.Mathlib.Omega.{arith}
-use borrow.Author.Rules.{rules}
 use Rattle.tuples.specs.Call.{delivered}
 use Rattle.update_delivering.proofs.Delivered.{too_short_lem, all-written, long-delivered, undo-limited, undo-refused}
 use Rattle.update_delivering.proofs.deliver_undo.Goals as goal

@@ -1,7 +1,6 @@
 -- Three writes in a row.
 use mathlib.Core.Path.{sym}
 use lib.Seq.{length-take-le}
-use borrow.Author.Rules.{rules}
 use Rattle.msgpack_writing.proofs.Put.{written}
 use Rattle.update_delivering.proofs.Sides.{rear_side, gathers_front, gathers_middle, gathers_rear, gathered_all}
 use Rattle.update_delivering.proofs.gather.Goals as goal

@@ -1,10 +1,8 @@
 -- The fields of the entries before i are written.
-use Prim.Native.Nat.{◌-◌, ◌≤◌}
 use native.Mathlib.Omega.{arith}
-use borrow.Author.Rules.{rules}
-use lib.ListN.{length, drop}
-use Rattle.msgpack_writing.proofs.Put.{Wrote, written}
-use Rattle.update_delivering.proofs.Runs.{reach-le, Front, further, gathered, begun, ended}
+use lib.ListN.{drop}
+use Rattle.msgpack_writing.proofs.Put.{written}
+use Rattle.update_delivering.proofs.Runs.{reach-le, further, gathered, begun, ended}
 use Rattle.update_delivering.proofs.gather_each.Goals as goal
 
 pub overflow_sub-run : goal.overflow_sub-run

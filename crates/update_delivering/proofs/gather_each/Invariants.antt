@@ -1,10 +1,8 @@
 -- The fields of the entries before i are written.
 use Prim.Native.Nat.{◌-◌, ◌≤◌}
-use native.Mathlib.Omega.{arith}
-use borrow.Author.Rules.{rules}
-use lib.ListN.{length, drop}
-use Rattle.msgpack_writing.proofs.Put.{Wrote, written}
-use Rattle.update_delivering.proofs.Runs.{reach-le, Front, further, gathered, begun, ended}
+use lib.ListN.{length}
+use Rattle.msgpack_writing.proofs.Put.{Wrote}
+use Rattle.update_delivering.proofs.Runs.{Front}
 use Rattle.update_delivering.proofs.gather_each.Given as goal
 
 abbrev pub invariant-loop-i : goal.invariant-loop-i

@@ -1,5 +1,4 @@
 use native.Mathlib.Omega.{arith}
-use borrow.Author.Rules.{rules}
 use Rattle.update_delivering.proofs.Sides.{side_none, side_after, side_written}
 use Rattle.update_delivering.proofs.gather_side.Goals as goal
 

@@ -1,6 +1,5 @@
 use mathlib.Core.Path.{refl}
 use mathlib.Core.Logic.{inl, inr}
-use borrow.Author.Rules.{rules}
 use Rattle.update_delivering.proofs.Tries.{lacks, press-refused, stalled_long, carried_stands, carried_undoes, tries_press}
 use Rattle.update_delivering.proofs.press_with.Goals as goal
 

@@ -1,11 +1,9 @@
 -- What is still to be found from here is what was to be found at first.
 use mathlib.Core.Path.{◌≡◌, refl, sym, ◌∙◌}
-use Prim.Native.Nat.{◌+◌, ◌-◌, ◌*◌, ◌<◌, ◌≤◌}
+use Prim.Native.Nat.{◌<◌, ◌≤◌}
 use native.Mathlib.Omega.{arith}
-use borrow.Author.Rules.{rules}
-use lib.ListN.{length, drop, get_or}
+use lib.ListN.{length, get_or}
 use Rattle.update_places.specs.Place.{start_of, length_of}
-use Rattle.update_delivering.specs.Gathering.{besides, reach}
 use Rattle.update_delivering.proofs.Runs.{reach-on, besides-on, reach_off, besides_off, reach_end, besides_end}
 use Rattle.update_delivering.proofs.run_from.Goals as goal
 

@@ -1,5 +1,4 @@
 use native.Mathlib.Omega.{arith}
-use borrow.Author.Rules.{rules}
 use Rattle.msgpack_writing.proofs.Lengths.{array_long}
 use Rattle.update_delivering.proofs.tuple_length.Goals as goal
 

@@ -1,7 +1,6 @@
 use mathlib.Core.Path.{sym, ap, ◌∙◌}
 use Prim.Native.Nat.{ℕ, ◌+◌}
 use native.Mathlib.Omega.{arith}
-use borrow.Author.Rules.{rules}
 use Rattle.msgpack_writing.proofs.Lengths.{array_long}
 use Rattle.update_delivering.proofs.Delivered.{many, long, within}
 use Rattle.update_delivering.proofs.undo_length.Goals as goal

@@ -1,6 +1,5 @@
 use mathlib.Core.Path.{refl}
 use mathlib.Core.Logic.{inl, inr}
-use borrow.Author.Rules.{rules}
 use Rattle.update_delivering.proofs.Tries.{lacks, undo-refused, stalled_long, carried_undoes, tries_undo}
 use Rattle.update_delivering.proofs.undo_with.Goals as goal
 

@@ -1,6 +1,5 @@
 use mathlib.Core.Path.{refl}
 use mathlib.Core.Logic.{inl}
-use borrow.Author.Rules.{rules}
 use Rattle.update_delivering.proofs.Tries.{lacks, update-refused, stalled_stands, tries_moved, carried_stands, tries_update}
 use Rattle.update_delivering.proofs.update_with.Goals as goal
 

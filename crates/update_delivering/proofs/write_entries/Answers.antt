@@ -1,8 +1,8 @@
 -- The entries from i on are written, the last first.
-use Prim.Native.Nat.{◌-◌, ◌≤◌}
+use Prim.Native.Nat.{◌-◌}
 use native.Mathlib.Omega.{arith}
-use Rattle.msgpack_writing.proofs.Put.{Wrote, written}
-use Rattle.update_delivering.proofs.Undos.{Rear, rear-begun, rear-room, rear-written, rear-ended}
+use Rattle.msgpack_writing.proofs.Put.{written}
+use Rattle.update_delivering.proofs.Undos.{rear-begun, rear-room, rear-written, rear-ended}
 use Rattle.update_delivering.proofs.write_entries.Goals as goal
 
 pub write_entry-to-requires : goal.write_entry-to-requires

@@ -1,8 +1,7 @@
 -- The entries from i on are written, the last first.
-use Prim.Native.Nat.{◌-◌, ◌≤◌}
-use native.Mathlib.Omega.{arith}
-use Rattle.msgpack_writing.proofs.Put.{Wrote, written}
-use Rattle.update_delivering.proofs.Undos.{Rear, rear-begun, rear-room, rear-written, rear-ended}
+use Prim.Native.Nat.{◌≤◌}
+use Rattle.msgpack_writing.proofs.Put.{Wrote}
+use Rattle.update_delivering.proofs.Undos.{Rear}
 use Rattle.update_delivering.proofs.write_entries.Given as goal
 
 abbrev pub invariant-loop-i : goal.invariant-loop-i

@@ -1,6 +1,5 @@
 use mathlib.Core.Path.{refl}
 use native.Mathlib.Omega.{arith}
-use borrow.Author.Rules.{rules}
 use Rattle.update_running.specs.Steps.{entry_mark, entry_field, entry_place}
 use Rattle.update_delivering.proofs.Undos.{entry-removed, entry_copied}
 use Rattle.update_delivering.proofs.write_entry.Goals as goal

@@ -1,4 +1,3 @@
-use borrow.Author.Rules.{rules}
 use Rattle.update_delivering.proofs.Tuples.{tuple_gathers, tuple-written}
 use Rattle.update_delivering.proofs.write_tuple.Goals as goal
 

@@ -1,5 +1,4 @@
 use native.Mathlib.Omega.{arith}
-use borrow.Author.Rules.{rules}
 use Rattle.update_delivering.proofs.Delivered.{undo-room, undo-written}
 use Rattle.update_delivering.proofs.write_undo.Goals as goal
 

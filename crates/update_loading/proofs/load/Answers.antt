@@ -2,7 +2,6 @@
 use mathlib.Core.Path.{sym, ◌∙◌}
 use native.Mathlib.Omega.{arith}
 use Rattle.update_loading.proofs.Judged.{long-tuple, no_array, many_fields, no_room, loaded-broken, loaded-short, loaded-all}
-use borrow.Author.Rules.{rules}
 use Rattle.update_loading.proofs.load.Goals as goal
 
 pub returns-in_default : goal.returns-in_default

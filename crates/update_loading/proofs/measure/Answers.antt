@@ -1,14 +1,10 @@
 -- The invariant: the values before `i` were whole, and the table has their places.
-use mathlib.Core.Path.{◌≡◌, refl, sym, ◌∙◌}
-use mathlib.Core.Logic.{⊎_elim}
-use Prim.Native.Nat.{◌-◌, ◌≤◌}
+use mathlib.Core.Path.{refl, sym, ◌∙◌}
 use native.Mathlib.Omega.{arith}
-use lib.ListN.{length}
 use Rattle.msgpack_values.specs.Value.{value}
 use Rattle.msgpack_values.proofs.Local.{value_good}
 use Rattle.tuples.specs.Limits.{field_depth}
-use Rattle.update_loading.proofs.Measures.{Sofar, begin, place_after, next_turn, next-broken, all_whole}
-use borrow.Author.Rules.{rules}
+use Rattle.update_loading.proofs.Measures.{begin, place_after, next_turn, next-broken, all_whole}
 use Rattle.update_loading.proofs.measure.Goals.{then-quick-gt0, else-quick-gt0+in-Whole}
 use Rattle.update_loading.proofs.measure.Goals as goal
 
@@ -20,8 +16,8 @@ loop-i-preserved c =
     let l = c.loop-i in
     let f = l.invariant in
     elim c.if-quick-gt0.branch [
-      then-quick-gt0 w ↦ next_turn (value_good field_depth) f.2 (omega arith) (omega arith) f.1 (c.short_end-quick.ensures w.if-quick-gt0.true) w.place_of.ensures w.table-is w.at-is
-    | else-quick-gt0+in-Whole w ↦ next_turn (value_good field_depth) f.2 (omega arith) (omega arith) f.1 (sym w.in-Whole.is ∙ w.read_value.ensures) w.place_of-in-Whole.ensures w.table-is w.at-is
+      | then-quick-gt0 w ↦ next_turn (value_good field_depth) f.2 (omega arith) (omega arith) f.1 (c.short_end-quick.ensures w.if-quick-gt0.true) w.place_of.ensures w.table-is w.at-is
+      | else-quick-gt0+in-Whole w ↦ next_turn (value_good field_depth) f.2 (omega arith) (omega arith) f.1 (sym w.in-Whole.is ∙ w.read_value.ensures) w.place_of-in-Whole.ensures w.table-is w.at-is
     ]
 
 pub overflow_sub-quick : goal.overflow_sub-quick

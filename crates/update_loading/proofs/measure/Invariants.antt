@@ -1,14 +1,10 @@
 -- The invariant: the values before `i` were whole, and the table has their places.
-use mathlib.Core.Path.{◌≡◌, refl, sym, ◌∙◌}
-use mathlib.Core.Logic.{⊎_elim}
+use mathlib.Core.Path.{◌≡◌}
 use Prim.Native.Nat.{◌-◌, ◌≤◌}
-use native.Mathlib.Omega.{arith}
 use lib.ListN.{length}
 use Rattle.msgpack_values.specs.Value.{value}
-use Rattle.msgpack_values.proofs.Local.{value_good}
 use Rattle.tuples.specs.Limits.{field_depth}
-use Rattle.update_loading.proofs.Measures.{Sofar, begin, place_after, next_turn, next-broken, all_whole}
-use borrow.Author.Rules.{rules}
+use Rattle.update_loading.proofs.Measures.{Sofar}
 use Rattle.update_loading.proofs.measure.Given as goal
 
 abbrev pub invariant-loop-i : goal.invariant-loop-i

@@ -1,6 +1,5 @@
 -- One law for each way back.
 use native.Mathlib.Omega.{arith}
-use borrow.Author.Rules.{rules}
 use Rattle.update_loading.proofs.Ends.{fixint_ends, uint_16_ends}
 use Rattle.update_loading.proofs.short_end.Goals as goal
 

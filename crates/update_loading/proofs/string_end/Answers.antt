@@ -1,7 +1,6 @@
 -- A string whose length stands in one byte or two.
 use Prim.Native.Nat.{◌+◌}
 use native.Mathlib.Omega.{arith}
-use borrow.Author.Rules.{rules}
 use Rattle.update_loading.proofs.Ends.{str_8_ends, str_16_ends}
 use Rattle.update_loading.proofs.string_end.Goals as goal
 

@@ -12,7 +12,6 @@ use Rattle.msgpack_scalars.proofs.Short.{integer_past, integer-small}
 use Rattle.tuples.specs.Decoding.{any_integer}
 use Rattle.update_parts.specs.Part.{signed_by}
 use Rattle.update_parts.proofs.Reading.{signed_of, integer-at}
-use borrow.Author.Rules.{rules}
 use Rattle.update_numbers.proofs.any_integer.Goals as goal
 
 -- by the integer x that was read

@@ -8,7 +8,6 @@ use Rattle.tuples.specs.Decoding.{any_integer, at_least}
 use Rattle.update_parts.specs.Part.{signed_by, natural_by}
 use Rattle.update_parts.specs.declared.Signed.{Signed}
 use Rattle.update_numbers.proofs.Numbers.{on_signed, least_in, least}
-use borrow.Author.Rules.{rules}
 use Rattle.update_numbers.proofs.at_least.Goals as goal
 
 -- by the integer x that was read

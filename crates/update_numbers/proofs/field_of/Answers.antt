@@ -1,6 +1,5 @@
 -- The base is taken off a number that is at least the base.
 use Rattle.update_numbers.proofs.Numbers.{field_at, field-before, field_below}
-use borrow.Author.Rules.{rules}
 use Rattle.update_numbers.proofs.field_of.Goals as goal
 
 pub returns-then-base-n : goal.returns-then-base-n

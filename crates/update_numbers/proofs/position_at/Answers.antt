@@ -8,7 +8,6 @@ use Rattle.update_parts.specs.Part.{signed_by, natural_by}
 use Rattle.update_numbers.specs.FieldNumber.{field_by}
 use Rattle.update_parts.specs.declared.Signed.{Signed}
 use Rattle.update_numbers.proofs.Numbers.{on_signed, field_in, position-is}
-use borrow.Author.Rules.{rules}
 use Rattle.update_numbers.proofs.position_at.Goals as goal
 
 -- by the integer x that was read

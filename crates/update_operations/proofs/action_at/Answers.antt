@@ -1,7 +1,6 @@
 -- By the count of the array.
 use Rattle.tuples.specs.Operation.{action_of}
 use Rattle.update_operations.proofs.Actions.{action_other}
-use borrow.Author.Rules.{rules}
 use Rattle.update_operations.proofs.action_at.Goals as goal
 
 pub returns-then-count-eq3 : goal.returns-then-count-eq3

@@ -1,5 +1,4 @@
 -- Each mark by its number.
-use borrow.Author.Rules.{rules}
 use borrow.Author.Tests.{ne_eqb}
 use Rattle.update_operations.proofs.by_integer.Goals as goal
 

@@ -1,5 +1,4 @@
 -- Position, count and argument, one after the other.
-use borrow.Author.Rules.{rules}
 use Rattle.update_operations.proofs.Actions.{five_other, five-is}
 use Rattle.update_operations.proofs.five_at.Goals as goal
 

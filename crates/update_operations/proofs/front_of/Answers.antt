@@ -1,7 +1,6 @@
 -- By the tests, and by the count that was read.
 use borrow.Author.Tests.{le-leb, lt-leb}
 use Rattle.update_operations.proofs.Listing.{base-refused, long-refused, fronted}
-use borrow.Author.Rules.{rules}
 use Rattle.update_operations.proofs.front_of.Goals as goal
 
 pub returns-then-base-gt1 : goal.returns-then-base-gt1

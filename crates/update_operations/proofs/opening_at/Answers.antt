@@ -1,5 +1,4 @@
 -- Count, mark and field number, one after the other.
-use borrow.Author.Rules.{rules}
 use Rattle.update_operations.proofs.Opening.{opening-is}
 use Rattle.update_operations.proofs.opening_at.Goals as goal
 

@@ -1,5 +1,4 @@
 -- By how the operation begins, and by its action.
-use borrow.Author.Rules.{rules}
 use Rattle.update_operations.proofs.Opening.{operation_decoded}
 use Rattle.update_operations.proofs.operation_at.Goals as goal
 

@@ -1,6 +1,5 @@
 -- By the value, or by the integer, that was read for the mark.
 use mathlib.Core.Path.{◌∙◌}
-use borrow.Author.Rules.{rules}
 use borrow.Author.Tests.{eq-eqb, ne_eqb}
 use Rattle.update_operations.proofs.Actions.{three-value, three-integer}
 use Rattle.update_operations.proofs.three_at.Goals as goal

@@ -1,7 +1,6 @@
 -- What was read is what the definition gets.
 use mathlib.Core.Path.{sym, ◌∙◌}
 use Rattle.update_parts.proofs.Reading.{value-at}
-use borrow.Author.Rules.{rules}
 use Rattle.update_parts.proofs.any_value.Goals as goal
 
 pub returns-in-Whole : goal.returns-in-Whole

@@ -1,6 +1,5 @@
 -- Both places are held to the end.
 use Rattle.update_parts.proofs.Reading.{clamped}
-use borrow.Author.Rules.{rules}
 use Rattle.update_parts.proofs.bytes_of.Goals as goal
 
 pub returns : goal.returns

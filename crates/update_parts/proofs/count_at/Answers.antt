@@ -5,7 +5,6 @@ use Rattle.msgpack_first_bytes.proofs.Entries.{short-array_said}
 use Rattle.msgpack_scalars.specs.Start.{array_by}
 use Rattle.msgpack_scalars.proofs.Short.{header_past, array-short}
 use Rattle.update_parts.proofs.Reading.{count_at}
-use borrow.Author.Rules.{rules}
 use Rattle.update_parts.proofs.count_at.Goals as goal
 
 pub returns-then-e-eq9 : goal.returns-then-e-eq9

@@ -2,7 +2,6 @@
 use native.Mathlib.Omega.{arith}
 use Prim.Native.Nat.{◌+◌}
 use Rattle.update_parts.proofs.Reading.{mark-cut, mark_other, mark-is}
-use borrow.Author.Rules.{rules}
 use Rattle.update_parts.proofs.mark_at.Goals as goal
 
 pub returns-then-s-lt2 : goal.returns-then-s-lt2

@@ -11,7 +11,6 @@ use Rattle.msgpack_scalars.specs.declared.Header.{Header}
 use Rattle.tuples.specs.Decoding.{string}
 use Rattle.update_parts.specs.Part.{span_by}
 use Rattle.update_parts.proofs.Reading.{string_of, string-start, string-at}
-use borrow.Author.Rules.{rules}
 use Rattle.update_parts.proofs.string_at.Goals as goal
 
 module _ (l : Bytes) (at : ℕ) {r : Header} (h : r ≡ shift_header at (header string_by (drop at l))) where

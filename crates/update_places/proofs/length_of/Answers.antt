@@ -1,6 +1,5 @@
 use mathlib.Core.Path.{refl}
 use native.Mathlib.Omega.{arith}
-use borrow.Author.Rules.{rules}
 use Rattle.update_places.specs.Place.{length_of}
 use Rattle.update_places.proofs.length_of.Goals as goal
 

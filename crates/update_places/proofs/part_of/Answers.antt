@@ -1,7 +1,6 @@
 use mathlib.Core.Path.{◌≡◌}
 use Prim.Native.Nat.{◌+◌, ◌-◌}
 use native.Mathlib.Omega.{arith}
-use borrow.Author.Rules.{rules}
 use Rattle.update_places.proofs.Runs.{no_part, rest_part}
 use Rattle.update_places.proofs.part_of.Goals as goal
 

@@ -1,5 +1,4 @@
 use native.Mathlib.Omega.{arith}
-use borrow.Author.Rules.{rules}
 use Rattle.update_places.specs.Place.{place_of}
 use Rattle.update_places.proofs.place_of.Goals as goal
 

@@ -1,5 +1,4 @@
 use native.Mathlib.Omega.{arith}
-use borrow.Author.Rules.{rules}
 use Rattle.update_places.specs.Place.{start_of}
 use Rattle.update_places.proofs.start_of.Goals as goal
 

@@ -1,7 +1,6 @@
 -- One law for each way back.
 use mathlib.Core.Path.{refl, ap, ◌∙◌}
 use native.Mathlib.Omega.{arith}
-use borrow.Author.Rules.{rules}
 use Prim.Native.Nat.{ℕ, ◌-◌}
 use Rattle.update_places.specs.Place.{in_work}
 use Rattle.update_planning.specs.declared.Planned.TheVariants.{Put}

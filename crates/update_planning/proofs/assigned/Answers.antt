@@ -1,7 +1,6 @@
 -- One law for each way back.
 use mathlib.Core.Path.{refl}
 use native.Mathlib.Omega.{arith}
-use borrow.Author.Rules.{rules}
 use Rattle.update_planning.proofs.Answers.{assigned_past, assigned_long, assigned_put, assigned_add}
 use Rattle.update_planning.proofs.assigned.Goals as goal
 

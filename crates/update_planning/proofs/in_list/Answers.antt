@@ -1,5 +1,4 @@
 use native.Mathlib.Omega.{arith}
-use borrow.Author.Rules.{rules}
 use Rattle.update_places.specs.Place.{place_of}
 use Rattle.update_planning.proofs.in_list.Goals as goal
 

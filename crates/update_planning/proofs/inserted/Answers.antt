@@ -1,7 +1,6 @@
 -- One law for each way back.
 use mathlib.Core.Path.{refl}
 use native.Mathlib.Omega.{arith}
-use borrow.Author.Rules.{rules}
 use Rattle.update_planning.proofs.Answers.{inserted_past, inserted_long, inserted_add}
 use Rattle.update_planning.proofs.inserted.Goals as goal
 

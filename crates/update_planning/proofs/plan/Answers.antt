@@ -1,6 +1,5 @@
 -- By the field and the action.
 use mathlib.Core.Path.{refl}
-use borrow.Author.Rules.{rules}
 use Rattle.update_planning.specs.Plan.{planned_at, work_at}
 use Rattle.update_planning.proofs.Answers.{below_zero, at_field}
 use Rattle.update_planning.proofs.plan.Goals as goal

@@ -1,6 +1,5 @@
 -- One law for each way back.
 use native.Mathlib.Omega.{arith}
-use borrow.Author.Rules.{rules}
 use Rattle.update_planning.proofs.Answers.{removed_past, removed_some}
 use Rattle.update_planning.proofs.removed.Goals as goal
 

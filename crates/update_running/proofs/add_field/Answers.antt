@@ -1,7 +1,5 @@
 use Prim.Native.Nat.{◌≤◌}
 use native.Mathlib.Omega.{arith}
-use borrow.Author.Rules.{rules}
-use borrow.Author.Tests.{not-true, not-false}
 use Rattle.update_running.proofs.Entries.{form_short, add-refused, add_done}
 use Rattle.update_running.proofs.add_field.Goals.{After-unsigned_length}
 use Rattle.update_running.proofs.add_field.Goals as goal
@@ -10,7 +8,7 @@ pub returns-then-not-fits : goal.returns-then-not-fits
 returns-then-not-fits c =
     let k = c in
     let a = k.args in
-    add-refused a.stage a.table.now a.back.now a.f a.p _ _ k.length_of.ensures.0 c.fits2.ensures (not-true _ c.if-not-fits.true)
+    add-refused a.stage a.table.now a.back.now a.f a.p _ _ k.length_of.ensures.0 c.fits.ensures c.if-not-fits.true
 
 short : (c : After-unsigned_length) → c.unsigned_length.result ≤ 9
 short c = form_short _ _ c.unsigned_length.ensures
@@ -23,7 +21,7 @@ returns c =
     let q = y in
     let k = q in
     let a = k.args in
-    add_done a.stage a.table.now a.back.now a.f a.p _ _ k.length_of.ensures.0 q.fits2.ensures (not-false _ q.if-not-fits.false)
+    add_done a.stage a.table.now a.back.now a.f a.p _ _ k.length_of.ensures.0 q.fits.ensures q.if-not-fits.false
     _ _ _ _ _ _ _ u.unsigned_length.ensures c.least.ensures c.least-2.ensures y.entry_of.ensures d.lay.ensures d.add-head.ensures
 
 pub overflow_add-result-3 : goal.overflow_add-result-3
@@ -33,4 +31,4 @@ pub overflow_add-result-4 : goal.overflow_add-result-4
 overflow_add-result-4 c = omega (arith, short c)
 
 pub overflow_add-result-5 : goal.overflow_add-result-5
-overflow_add-result-5 c = omega (arith, short c.before, c.requires.0.back)
+overflow_add-result-5 c = omega (arith, form_short _ _ c.unsigned_length.ensures, c.requires.0.back)

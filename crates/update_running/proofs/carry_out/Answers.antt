@@ -1,14 +1,12 @@
 -- `update_running::carry_out` meets its contract.
-use mathlib.Core.Path.{◌≡◌, refl, sym, ap, ◌∙◌}
+use mathlib.Core.Path.{refl, sym, ap, ◌∙◌}
 use mathlib.Core.Logic.{inl, inr}
 use mathlib.Core.List.{List, ◌++◌}
-use Prim.Native.Nat.{ℕ, ◌-◌, ◌≤◌}
+use Prim.Native.Nat.{ℕ, ◌-◌}
 use native.Mathlib.Omega.{arith}
 use lib.ListN.{length, take, drop, length-take, length-drop}
-use Rattle.tuples.specs.Limits.{max_fields, max_operations}
 use Rattle.update_loading.proofs.Judged.{loaded_bad, loaded-is, loaded_noroom}
-use Rattle.update_running.proofs.Begin.{bad_tuple, many_listed, long-list, middle, begun_at, begins, carries}
-use borrow.Author.Rules.{rules}
+use Rattle.update_running.proofs.Begin.{bad_tuple, many_listed, long-list, begins, carries}
 use Rattle.update_running.proofs.carry_out.Goals as goal
 
 pub returns-then-work-gt-WORK_ROOM : goal.returns-then-work-gt-WORK_ROOM

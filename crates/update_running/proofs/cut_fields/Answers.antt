@@ -25,7 +25,7 @@ overflow_add-result-2 c =
     let u = g.unsigned_length.result in
     let o = g in
     let a = o.args in
-    let h = short g.before in
+    let h = form_short _ _ c.unsigned_length.ensures in
     omega (arith, small-sum (3 + u) a.m (a.stage.head + a.f) a.table.now (omega arith), g.gone_of-gone.ensures.1, o.requires.1, o.requires.0.few, o.requires.0.back)
 
 pub overflow_add-f : goal.overflow_add-f

@@ -1,6 +1,5 @@
 use mathlib.Core.Path.{◌∙◌, ap, sym}
 use native.Mathlib.Omega.{arith}
-use borrow.Author.Rules.{rules}
 use Rattle.update_running.specs.Carrying.{finishes_by}
 use Rattle.update_running.proofs.Entries.{not_finished, is_finished}
 use Rattle.update_running.proofs.finished.Goals as goal

@@ -1,12 +1,8 @@
 -- What is summed, and then what is left, is what was to be summed at first.
-use mathlib.Core.Path.{◌≡◌}
-use mathlib.Core.List.{map}
-use Prim.Native.Nat.{ℕ, ◌+◌, ◌-◌, ◌*◌, ◌≤◌}
+use Prim.Native.Nat.{ℕ, ◌+◌}
 use native.Mathlib.Omega.{arith}
 use native.Mathlib.Nat.{add-zero, sub-zero, zero-add}
-use borrow.Author.Rules.{rules}
-use Rattle.update_places.specs.Place.{length_of, sum}
-use Rattle.update_table.specs.Table.{window}
+use Rattle.update_places.specs.Place.{length_of}
 use Rattle.update_running.proofs.Entries.{sum_turn, sum_end}
 use Rattle.update_running.proofs.gone_of.Goals as goal
 

@@ -1,14 +1,10 @@
 -- What is laid, and then what is left, is what was to be laid at first.
-use mathlib.Core.Path.{◌≡◌, refl, sym, ap, ◌∙◌}
+use mathlib.Core.Path.{◌≡◌}
 use mathlib.Core.List.{map}
 use Prim.Native.Nat.{◌+◌, ◌-◌, ◌≤◌}
-use native.Mathlib.Omega.{arith}
-use native.Mathlib.Nat.{add-zero, sub-zero}
-use borrow.Author.Rules.{rules}
-use lib.ListN.{length, get_or, set, length-set}
+use lib.ListN.{length}
 use Rattle.update_table.specs.Table.{window}
 use Rattle.update_running.specs.Steps.{entry_of, laid_from}
-use Rattle.update_running.proofs.Entries.{laid_turn, laid_end}
 use Rattle.update_running.proofs.lay_removed.Given as goal
 
 abbrev pub invariant-loop-i : goal.invariant-loop-i

@@ -1,5 +1,4 @@
 use mathlib.Core.Path.{refl, subst}
-use borrow.Author.Rules.{rules}
 use Rattle.update_planning.specs.declared.Planned.{Planned}
 use Rattle.update_running.specs.Steps.{Among}
 use Rattle.update_running.proofs.Entries.{by_plan}

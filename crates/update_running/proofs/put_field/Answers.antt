@@ -1,7 +1,5 @@
 use Prim.Native.Nat.{◌≤◌}
 use native.Mathlib.Omega.{arith}
-use borrow.Author.Rules.{rules}
-use borrow.Author.Tests.{not-true, not-false}
 use Rattle.update_places.specs.Place.{length_of}
 use Rattle.update_running.proofs.Entries.{one-sum, form_short, put_refused, put-done}
 use Rattle.update_running.proofs.put_field.Goals.{After-unsigned_length}
@@ -21,7 +19,7 @@ returns-then-not-fits c =
     let k = c in
     let a = k.args in
     put_refused a.stage a.table.now a.back.now a.f a.p a.used _ _ _ k.length_of-gone.ensures.0 c.length_of.ensures.0
-    c.fits2.ensures (not-true _ c.if-not-fits.true)
+    c.fits.ensures c.if-not-fits.true
 
 short : (c : After-unsigned_length) → c.unsigned_length.result ≤ 9
 short c = form_short _ _ c.unsigned_length.ensures
@@ -29,7 +27,7 @@ short c = form_short _ _ c.unsigned_length.ensures
 pub overflow_add-result-4 : goal.overflow_add-result-4
 overflow_add-result-4 c =
     let k = c in
-    omega (arith, short c.before, k.length_of-gone.ensures.1, k.requires.0.back)
+    omega (arith, form_short _ _ c.unsigned_length.ensures, k.length_of-gone.ensures.1, k.requires.0.back)
 
 pub returns : goal.returns
 returns c =
@@ -39,7 +37,7 @@ returns c =
     let k = q in
     let a = k.args in
     put-done a.stage a.table.now a.back.now a.f a.p a.used _ _ _ k.length_of-gone.ensures.0 q.length_of.ensures.0
-    q.fits2.ensures (not-false _ q.if-not-fits.false) _ _ _ _ _ u.unsigned_length.ensures c.least.ensures c.least-2.ensures
+    q.fits.ensures q.if-not-fits.false _ _ _ _ _ u.unsigned_length.ensures c.least.ensures c.least-2.ensures
     y.entry_of.ensures u.lay.ensures
 
 pub overflow_add-result-2 : goal.overflow_add-result-2

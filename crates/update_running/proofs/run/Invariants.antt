@@ -1,15 +1,9 @@
 -- `update_running::run` meets its contract. The invariant: what is left to do is what was to be done, and the arrays keep their lengths.
-use mathlib.Core.Path.{◌≡◌, refl, sym, ◌∙◌}
-use Prim.Native.Nat.{◌-◌, ◌≤◌}
-use native.Mathlib.Omega.{arith}
-use borrow.Author.Rules.{rules}
+use mathlib.Core.Path.{◌≡◌}
+use Prim.Native.Nat.{◌-◌}
 use lib.ListN.{length}
-use Rattle.update_operations.proofs.Opening.{operation-is, operation_bad}
-use Rattle.update_running.specs.Carrying.{work_room}
-use Rattle.update_running.proofs.Turns.{InCourse, course_bad}
-use Rattle.update_running.proofs.Turning.{fields_at, course_sound, turn_next, turn_full, course_begins, course_finished}
-use Rattle.update_running.proofs.run.Reads as reads
-use Rattle.update_running.proofs.run.Lts as lts
+use Rattle.update_running.proofs.Turns.{InCourse}
+use Rattle.update_running.proofs.Turning.{fields_at}
 use Rattle.update_running.proofs.run.Given as goal
 
 abbrev pub invariant-loop-i : goal.invariant-loop-i

@@ -1,12 +1,8 @@
 -- `update_running::step` meets its contract.
-use mathlib.Core.Path.{◌≡◌, refl, sym, subst}
-use mathlib.Core.List.{List}
-use Prim.Native.Nat.{ℕ}
-use borrow.Author.Rules.{rules}
+use mathlib.Core.Path.{refl, sym, subst}
 use Rattle.update_planning.specs.declared.Planned.{Planned}
-use Rattle.update_running.specs.declared.Course.{Course, TheVariants.Going, TheVariants.Stopped}
-use Rattle.update_running.specs.declared.Performed.{Performed, TheVariants.Stop, TheVariants.Full as NoWork, TheVariants.Next}
-use Rattle.update_running.specs.Steps.{Among, Sound}
+use Rattle.update_running.specs.declared.Course.{Course}
+use Rattle.update_running.specs.Steps.{Among}
 use Rattle.update_running.specs.Course.{CourseSound}
 use Rattle.update_running.proofs.Among.{planned-among}
 use Rattle.update_running.proofs.Stepping.{by_course, step_going}

@@ -1,7 +1,6 @@
 -- Out of range where a part of the sum is.
 use native.Mathlib.Omega.{arith}
 use Rattle.update_sums.proofs.Signs as Signs
-use borrow.Author.Rules.{rules}
 use Rattle.update_sums.proofs.lowered.Goals as goal
 
 pub returns-then-a-ge-SIGN : goal.returns-then-a-ge-SIGN

@@ -3,7 +3,6 @@ use native.Mathlib.Omega.{arith}
 use mathlib.Core.Path.{sym, ap, ◌∙◌}
 use Rattle.update_sums.specs.Range.{in_range}
 use Rattle.update_sums.proofs.Signs as Signs
-use borrow.Author.Rules.{rules}
 use Rattle.update_sums.proofs.mixed.Goals as goal
 
 pub returns-then-m-x : goal.returns-then-m-x

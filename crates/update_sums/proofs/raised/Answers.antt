@@ -1,7 +1,6 @@
 -- In range, or not.
 use native.Mathlib.Omega.{arith}
 use Rattle.update_sums.proofs.Signs as Signs
-use borrow.Author.Rules.{rules}
 use Rattle.update_sums.proofs.raised.Goals as goal
 
 pub returns-then-x-y : goal.returns-then-x-y

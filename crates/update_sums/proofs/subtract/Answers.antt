@@ -2,7 +2,6 @@
 use native.Mathlib.Omega.{arith}
 use mathlib.Core.Path.{◌∙◌}
 use Rattle.update_sums.proofs.Signs as Signs
-use borrow.Author.Rules.{rules}
 use Rattle.update_sums.proofs.subtract.Goals as goal
 
 pub returns-then-b : goal.returns-then-b

@@ -1,5 +1,4 @@
 use native.Mathlib.Omega.{arith}
-use borrow.Author.Rules.{rules}
 use Rattle.update_table.proofs.Edits.{not_added, put-below, put-above}
 use Rattle.update_table.proofs.add.Goals as goal
 

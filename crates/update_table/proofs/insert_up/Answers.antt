@@ -1,10 +1,10 @@
 -- The entries before `at + i` are as they will be, and the next one is carried.
 use mathlib.Core.Path.{◌≡◌, refl, ◌∙◌}
 use mathlib.Core.List.{◌∷◌}
-use Prim.Native.Nat.{◌+◌, ◌-◌, ◌<◌, ◌≤◌}
+use Prim.Native.Nat.{◌+◌, ◌<◌}
 use native.Mathlib.Omega.{arith}
-use lib.ListN.{length, drop, get_or, length-set}
-use lib.Seq.{paste, paste-zero}
+use lib.ListN.{length, drop, length-set}
+use lib.Seq.{paste-zero}
 use Rattle.update_table.proofs.Turns.{carry_turn, carry_next}
 use Rattle.update_table.proofs.insert_up.Goals as goal
 

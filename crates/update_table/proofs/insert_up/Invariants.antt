@@ -1,11 +1,9 @@
 -- The entries before `at + i` are as they will be, and the next one is carried.
-use mathlib.Core.Path.{◌≡◌, refl, ◌∙◌}
+use mathlib.Core.Path.{◌≡◌}
 use mathlib.Core.List.{◌∷◌}
-use Prim.Native.Nat.{◌+◌, ◌-◌, ◌<◌, ◌≤◌}
-use native.Mathlib.Omega.{arith}
-use lib.ListN.{length, drop, get_or, length-set}
-use lib.Seq.{paste, paste-zero}
-use Rattle.update_table.proofs.Turns.{carry_turn, carry_next}
+use Prim.Native.Nat.{◌+◌, ◌-◌, ◌≤◌}
+use lib.ListN.{length, drop, get_or}
+use lib.Seq.{paste}
 use Rattle.update_table.proofs.insert_up.Given as goal
 
 abbrev pub invariant-loop-i : goal.invariant-loop-i

@@ -1,9 +1,8 @@
 -- The entries before `i` are moved: `table` is the table at first with those of them laid in.
 use mathlib.Core.Path.{◌≡◌, refl, ◌∙◌}
-use Prim.Native.Nat.{◌-◌, ◌≤◌}
 use native.Mathlib.Omega.{arith}
-use lib.ListN.{length, drop, length-set}
-use lib.Seq.{paste, paste-zero}
+use lib.ListN.{drop, length-set}
+use lib.Seq.{paste-zero}
 use Rattle.update_table.proofs.Turns.{down_turn}
 use Rattle.update_table.proofs.move_down.Goals as goal
 

@@ -1,10 +1,8 @@
 -- The entries before `i` are moved: `table` is the table at first with those of them laid in.
-use mathlib.Core.Path.{◌≡◌, refl, ◌∙◌}
+use mathlib.Core.Path.{◌≡◌}
 use Prim.Native.Nat.{◌-◌, ◌≤◌}
-use native.Mathlib.Omega.{arith}
-use lib.ListN.{length, drop, length-set}
-use lib.Seq.{paste, paste-zero}
-use Rattle.update_table.proofs.Turns.{down_turn}
+use lib.ListN.{length, drop}
+use lib.Seq.{paste}
 use Rattle.update_table.proofs.move_down.Given as goal
 
 abbrev pub invariant-loop-i : goal.invariant-loop-i

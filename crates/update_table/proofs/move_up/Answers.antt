@@ -1,9 +1,7 @@
 -- The entries from `i` on are moved: `table` is the table at first with those of them laid in.
 use mathlib.Core.Path.{◌≡◌, refl, ◌∙◌}
-use Prim.Native.Nat.{◌+◌, ◌-◌, ◌≤◌}
 use native.Mathlib.Omega.{arith}
-use lib.ListN.{length, drop, length-set}
-use lib.Seq.{paste}
+use lib.ListN.{length-set}
 use native.Mathlib.Nat.{add-zero, sub-zero}
 use Rattle.update_table.proofs.Turns.{up_begin, up_turn}
 use Rattle.update_table.proofs.move_up.Goals as goal

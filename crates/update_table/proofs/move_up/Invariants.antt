@@ -1,11 +1,8 @@
 -- The entries from `i` on are moved: `table` is the table at first with those of them laid in.
-use mathlib.Core.Path.{◌≡◌, refl, ◌∙◌}
+use mathlib.Core.Path.{◌≡◌}
 use Prim.Native.Nat.{◌+◌, ◌-◌, ◌≤◌}
-use native.Mathlib.Omega.{arith}
-use lib.ListN.{length, drop, length-set}
+use lib.ListN.{length, drop}
 use lib.Seq.{paste}
-use native.Mathlib.Nat.{add-zero, sub-zero}
-use Rattle.update_table.proofs.Turns.{up_begin, up_turn}
 use Rattle.update_table.proofs.move_up.Given as goal
 
 abbrev pub invariant-loop-i : goal.invariant-loop-i

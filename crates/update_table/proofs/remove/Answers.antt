@@ -1,5 +1,4 @@
 use native.Mathlib.Omega.{arith}
-use borrow.Author.Rules.{rules}
 use Rattle.update_table.proofs.Edits.{not_removed, cut_below, cut-above}
 use Rattle.update_table.proofs.remove.Goals as goal
 

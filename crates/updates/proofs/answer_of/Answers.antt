@@ -1,12 +1,11 @@
 -- By what the call came to.
-use mathlib.Core.Path.{◌≡◌, sym, ap, ◌∙◌, subst}
+use mathlib.Core.Path.{sym, ap, ◌∙◌, subst}
 use native.Mathlib.Omega.{arith}
 use Rattle.tuples.specs.declared.Answer.{Answer}
 use Rattle.tuples.specs.Call.{spoiled_in}
 use Rattle.update_answers.specs.Seen.{answer_at}
 use Rattle.updates.specs.declared.Call.{Call}
 use Rattle.updates.specs.Telling.{FewIn, answer_by}
-use borrow.Author.Rules.{rules}
 use Rattle.updates.proofs.answer_of.Goals as goal
 
 pub overflow_cast-i : goal.overflow_cast-i

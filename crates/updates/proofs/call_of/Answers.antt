@@ -1,5 +1,4 @@
 -- By the variant.
-use borrow.Author.Rules.{rules}
 use Rattle.updates.proofs.call_of.Goals as goal
 
 pub returns-in-Refused : goal.returns-in-Refused

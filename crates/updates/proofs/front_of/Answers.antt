@@ -1,6 +1,5 @@
 -- By what the front tells.
 use Rattle.updates.proofs.Calls.{front_good, front_bad}
-use borrow.Author.Rules.{rules}
 use Rattle.updates.proofs.front_of.Goals as goal
 
 pub returns-in-Good : goal.returns-in-Good

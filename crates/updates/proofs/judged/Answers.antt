@@ -1,7 +1,6 @@
 -- What the update call refuses, or 17.
 use native.Mathlib.Omega.{arith}
 use Rattle.updates.proofs.Calls.{judges}
-use borrow.Author.Rules.{rules}
 use Rattle.updates.proofs.judged.Goals as goal
 
 pub returns-in-Refused : goal.returns-in-Refused

@@ -1,6 +1,5 @@
 -- The answer with its place.
 use Rattle.updates.proofs.Calls.{press-both, press-declined, press-long, refuses_few}
-use borrow.Author.Rules.{rules}
 use Rattle.updates.proofs.press.Goals as goal
 
 pub returns-in-Written : goal.returns-in-Written
@@ -8,7 +7,7 @@ returns-in-Written c =
     let u = c in
     let a = u.args in
     let n = c.in-Written in
-    rw (c.press_answer.ensures, c.answer_of.ensures) (press-both a.tuple.now a.list.now a.index-base a.out.now a.back.now n.length n.undo_length _ _ (rw n.is at u.pressed.ensures))
+    rw (c.press_answer.ensures, c.answer_of.ensures) (press-both a.tuple.now a.list.now a.index_base a.out.now a.back.now n.length n.undo_length _ _ (rw n.is at u.pressed.ensures))
 
 pub returns-in-Refused : goal.returns-in-Refused
 returns-in-Refused c =
@@ -16,14 +15,14 @@ returns-in-Refused c =
     let a = u.args in
     let n = c.in-Refused in
     let h = rw n.is at u.pressed.ensures in
-    rw (c.press_answer-in-Refused.ensures, c.answer_of-in-Refused.ensures) (press-declined a.tuple.now a.list.now a.index-base a.out.now a.back.now n.refusal n.i _ _ h.0)
+    rw (c.press_answer-in-Refused.ensures, c.answer_of-in-Refused.ensures) (press-declined a.tuple.now a.list.now a.index_base a.out.now a.back.now n.refusal n.i _ _ h.0)
 
 pub returns-in-NoRoom : goal.returns-in-NoRoom
 returns-in-NoRoom c =
     let u = c in
     let a = u.args in
     let n = rw c.in-NoRoom.is at u.pressed.ensures in
-    rw (c.press_answer-in-NoRoom.ensures, c.answer_of-in-NoRoom.ensures) (press-long a.tuple.now a.list.now a.index-base a.out.now a.back.now c.judged.result _ _ n.0 n.1 n.2 c.judged.ensures)
+    rw (c.press_answer-in-NoRoom.ensures, c.answer_of-in-NoRoom.ensures) (press-long a.tuple.now a.list.now a.index_base a.out.now a.back.now c.judged.result _ _ n.0 n.1 n.2 c.judged.ensures)
 
 pub answer_of-requires-in-Refused : goal.answer_of-requires-in-Refused
 answer_of-requires-in-Refused c = let n = rw c.in-Refused.is at c.pressed.ensures in n.1
@@ -31,4 +30,4 @@ answer_of-requires-in-Refused c = let n = rw c.in-Refused.is at c.pressed.ensure
 pub answer_of-requires-in-NoRoom : goal.answer_of-requires-in-NoRoom
 answer_of-requires-in-NoRoom c =
     let a = c.args in
-    refuses_few a.tuple.now a.list.now a.index-base c.judged.result _ c.judged.ensures
+    refuses_few a.tuple.now a.list.now a.index_base c.judged.result _ c.judged.ensures

@@ -1,6 +1,5 @@
 -- Short arrays first.
 use Rattle.updates.proofs.Calls.{told-press}
-use borrow.Author.Rules.{rules}
 use Rattle.updates.proofs.pressed.Goals as goal
 
 pub returns-in-Refused : goal.returns-in-Refused

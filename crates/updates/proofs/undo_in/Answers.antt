@@ -1,6 +1,5 @@
 -- What was tried, told.
 use Rattle.updates.proofs.Calls.{told-undo}
-use borrow.Author.Rules.{rules}
 use Rattle.updates.proofs.undo_in.Goals as goal
 
 pub returns : goal.returns

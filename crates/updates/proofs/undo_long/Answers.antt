@@ -1,7 +1,6 @@
 -- What was tried in the longest arrays, told.
 use native.Mathlib.Omega.{arith}
 use Rattle.updates.proofs.Calls.{told-long}
-use borrow.Author.Rules.{rules}
 use Rattle.updates.proofs.undo_long.Goals as goal
 
 pub returns : goal.returns

@@ -1,5 +1,4 @@
 -- Short arrays first.
-use borrow.Author.Rules.{rules}
 use Rattle.updates.proofs.undone.Goals as goal
 
 pub returns-in-NoRoom : goal.returns-in-NoRoom

@@ -1,17 +1,16 @@
 -- The answer with its place.
-use mathlib.Core.Path.{◌≡◌, ap, ◌∙◌}
+use mathlib.Core.Path.{ap, ◌∙◌}
 use Rattle.tuples.specs.Call.{update, update_call}
 use Rattle.tuples.specs.declared.Answer.{Answer}
 use Rattle.update_answers.specs.Seen.{seen}
 use Rattle.updates.proofs.Calls.{told-few, answers}
-use borrow.Author.Rules.{rules}
 use Rattle.updates.proofs.update.Goals as goal
 
 pub answer_of-requires : goal.answer_of-requires
 answer_of-requires c =
     let v = c in
     let a = c.args in
-    told-few v.updated.result (update a.tuple.now a.list.now a.index-base) a.out.now v.updated.new.out v.updated.ensures
+    told-few v.updated.result (update a.tuple.now a.list.now a.index_base) a.out.now v.updated.new.out v.updated.ensures
 
 pub returns : goal.returns
 unfolding update_call
@@ -19,4 +18,4 @@ returns c =
     let v = c in
     let a = c.args in
     ap (λ (r : Answer). seen r v.updated.new.out) c.answer_of.ensures
-    ∙ answers a.tuple.now a.list.now v.updated.result (update a.tuple.now a.list.now a.index-base) a.out.now v.updated.new.out v.updated.ensures
+    ∙ answers a.tuple.now a.list.now v.updated.result (update a.tuple.now a.list.now a.index_base) a.out.now v.updated.new.out v.updated.ensures

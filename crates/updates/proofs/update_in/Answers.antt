@@ -3,11 +3,6 @@ use Rattle.tuples.specs.Call.{update}
 use Rattle.updates.specs.declared.Call.{Call}
 use Rattle.updates.specs.Telling.{Tells}
 use Rattle.updates.proofs.Calls.{told-update}
-use borrow.Author.Rules.{rules}
-use Rattle.updates.proofs.update_in.Reads as reads
-use Rattle.updates.proofs.update_in.Lts as lts
-use Rattle.update_delivering.proofs.update_with.Reads as update-with-reads
-use Rattle.updates.proofs.call_of.Reads as call-of-reads
 use Rattle.updates.proofs.update_in.Goals as goal
 
 -- src/lib.rt:91:9

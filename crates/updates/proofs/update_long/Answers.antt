@@ -1,18 +1,11 @@
 -- `updates::update_long` meets its contract. The invariant: what is left to do on the tuple that stands in the first array is what was to be
 -- done, and nothing is written.
-use mathlib.Core.Path.{◌≡◌, refl, sym, ap, ◌∙◌, subst}
-use Prim.Native.Nat.{◌-◌, ◌≤◌}
+use mathlib.Core.Path.{refl, sym, ap, ◌∙◌}
 use native.Mathlib.Omega.{arith}
 use borrow.Author.Rules.{rules}
-use lib.ListN.{length, take}
+use lib.ListN.{length}
 use lib.Seq.{length-take-le}
-use Rattle.tuples.specs.Tuple.{fields_of}
-use Rattle.tuples.specs.Call.{update}
-use Rattle.update_running.specs.Carrying.{comes_to, rest_of}
-use Rattle.updates.specs.Telling.{came_of, Told}
 use Rattle.updates.proofs.Calls.{long-tuple, first_turn, told_as, no_room, rebased, rebased_room, rebased_on}
-use Rattle.updates.proofs.update_long.Reads as reads
-use Rattle.updates.proofs.update_long.Lts as lts
 use Rattle.updates.proofs.update_long.Goals as goal
 
 pub returns-then-tuple-gt-MAX_TUPLE : goal.returns-then-tuple-gt-MAX_TUPLE

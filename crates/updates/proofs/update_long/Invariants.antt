@@ -1,18 +1,11 @@
 -- `updates::update_long` meets its contract. The invariant: what is left to do on the tuple that stands in the first array is what was to be
 -- done, and nothing is written.
-use mathlib.Core.Path.{◌≡◌, refl, sym, ap, ◌∙◌, subst}
+use mathlib.Core.Path.{◌≡◌}
 use Prim.Native.Nat.{◌-◌, ◌≤◌}
-use native.Mathlib.Omega.{arith}
-use borrow.Author.Rules.{rules}
 use lib.ListN.{length, take}
-use lib.Seq.{length-take-le}
 use Rattle.tuples.specs.Tuple.{fields_of}
-use Rattle.tuples.specs.Call.{update}
 use Rattle.update_running.specs.Carrying.{comes_to, rest_of}
-use Rattle.updates.specs.Telling.{came_of, Told}
-use Rattle.updates.proofs.Calls.{long-tuple, first_turn, told_as, no_room, rebased, rebased_room, rebased_on}
-use Rattle.updates.proofs.update_long.Reads as reads
-use Rattle.updates.proofs.update_long.Lts as lts
+use Rattle.updates.specs.Telling.{came_of}
 use Rattle.updates.proofs.update_long.Given as goal
 
 abbrev pub invariant-loop-refusal : goal.invariant-loop-refusal

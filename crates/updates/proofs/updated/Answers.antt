@@ -1,9 +1,8 @@
 -- In short arrays first.
-use mathlib.Core.Path.{◌≡◌, sym, subst}
+use mathlib.Core.Path.{subst}
 use Rattle.msgpack_first_bytes.specs.Bytes.{Bytes}
 use Rattle.tuples.specs.Call.{update}
 use Rattle.updates.specs.Telling.{Told}
-use borrow.Author.Rules.{rules}
 use Rattle.updates.proofs.updated.Goals as goal
 
 pub returns-in-Refused : goal.returns-in-Refused
