@@ -6,7 +6,8 @@ use Rattle.frame_fault_fields.proofs.write_cell.Goals as goal
 
 pub returns-then-i-frame : goal.returns-then-i-frame
 unfolding cell
-returns-then-i-frame c = rw (lt-ltb _ _ c.if-i-frame.true) (also c.write_margin-to.ensures c.write_byte.ensures)
+returns-then-i-frame c =
+    rw (lt-ltb _ _ c.if-i-frame.true) (also c.write_margin-to.ensures c.write_byte.ensures)
 
 pub returns-then-marked : goal.returns-then-marked
 unfolding cell

@@ -48,4 +48,5 @@ unfolding words_of name_in refusals
 returns-in-10 c = rw c.in-10.is c.write_bytes-in-10.ensures
 
 pub returns-in_default : goal.returns-in_default
-returns-in_default c = rw (no_words c.args.number (search rules)) (nothing _ _ [] refl)
+unfolding words_of name_in refusals
+returns-in_default c = rw (no_words _ c.in_default.in_default-own.rest) (nothing _ _ [] refl)
