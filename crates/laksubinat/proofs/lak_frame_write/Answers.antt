@@ -1,7 +1,6 @@
 -- The writer's answer with operation 0.
 use mathlib.Core.Path.{ap}
 use Rattle.laksubinat.specs.Shown.{result_of}
-use borrow.Author.Rules.{rules}
 use Rattle.laksubinat.proofs.lak_frame_write.Goals as goal
 
 pub returns : goal.returns

@@ -1,4 +1,4 @@
-use Rattle.std.proofs.Common.{◌-◌, length, rules}
+use Rattle.std.proofs.Common.{◌-◌, length}
 use Rattle.program_cases.proofs.print_lines.Given as goal
 
 abbrev pub decreases-loop-at : goal.decreases-loop-at

@@ -1,4 +1,4 @@
-use Rattle.std.proofs.Common.{◌-◌, ◌<◌, length, arith, rules}
+use Rattle.std.proofs.Common.{arith}
 use Rattle.program_cases.proofs.text.adler.Goals as goal
 
 pub overflow_cast-low : goal.overflow_cast-low

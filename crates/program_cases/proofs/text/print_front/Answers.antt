@@ -1,4 +1,4 @@
-use Rattle.std.proofs.Common.{◌-◌, length, arith, rules}
+use Rattle.std.proofs.Common.{arith}
 use Rattle.program_cases.proofs.text.print_front.Goals as goal
 
 pub overflow_cast-s : goal.overflow_cast-s

@@ -1,4 +1,4 @@
-use Rattle.std.proofs.Common.{◌-◌, length, arith, rules}
+use Rattle.std.proofs.Common.{◌-◌, length}
 use Rattle.program_cases.proofs.text.print_front.Given as goal
 
 abbrev pub decreases-loop-i : goal.decreases-loop-i
