@@ -28,15 +28,15 @@ pub overflow_add-result : goal.overflow_add-result
 unfolding heading
 overflow_add-result c =
     let a = c.args in
-    let e = headed a.input.now a.out.now c.if-input-gt-MOST.false c.write_bytes-from.ensures (omega (arith, c.if-out-length.false)) in
-    record { fits = omega (arith, e, c.lay.ensures.1.0) }
+    let h = headed a.input.now a.out.now c.if-input-gt-MOST.false c.write_bytes-from.ensures (omega (arith, c.if-out-length.false)) in
+    record { fits = omega (arith, h, c.lay.ensures.1.0) }
 
 pub returns : goal.returns
 unfolding heading
 returns c =
     let a = c.args in
-    let e = listing-length a.input.now a.out.now c.if-input-gt-MOST.false in
+    let g = listing-length a.input.now a.out.now c.if-input-gt-MOST.false in
     let z = c.lay.ensures in
     let y = c.lay-length.ensures in
     let b = both a.input.now a.out.now c.if-input-gt-MOST.false c.write_bytes-from.ensures z.0 z.1.1 (omega (arith, z.0, y.0, c.if-out-length.false)) in
-    record { value = b; input_len_bound = (omega (arith, e, z.0, z.1.0), next-within _ _ _ b.0) }
+    record { value = b; input_len_bound = (omega (arith, g, z.0, z.1.0), next-within _ _ _ b.0) }
