@@ -10,49 +10,42 @@ use Rattle.update_altering.proofs.append.Goals as goal
 
 pub overflow_add-at : goal.overflow_add-at
 overflow_add-at c =
-    let o = c in
-    let a = o.args in
-    let k = (Strings.in_tuple a.tuple.now a.list.now a.work.now a.used a.at a.size a.from a.n o.requires.n_in_bounds (omega arith)).0 in
+    let a = c.args in
+    let k = (Strings.in_tuple a.tuple.now a.list.now a.work.now a.used a.at a.size a.from a.n c.requires.n_in_bounds (omega arith)).0 in
     omega arith
 
 pub returns-then-at-lt-IN_LIST : goal.returns-then-at-lt-IN_LIST
 returns-then-at-lt-IN_LIST c =
-    let o = c in
-    let a = o.args in
-    let k = (Strings.in_tuple a.tuple.now a.list.now a.work.now a.used a.at a.size a.from a.n o.requires.n_in_bounds (omega arith)).1 in
+    let a = c.args in
+    let k = (Strings.in_tuple a.tuple.now a.list.now a.work.now a.used a.at a.size a.from a.n c.requires.n_in_bounds (omega arith)).1 in
     placed _ _ a.work.now _ a.to _ (c.part_of.ensures ∙ k) c.write_bytes.ensures
 
 pub overflow_add-start : goal.overflow_add-start
 overflow_add-start c =
-    let o = c in
-    let a = o.args in
-    let k = (Strings.in_list_lem a.tuple.now a.list.now a.work.now a.used a.at a.size a.from a.n o.requires.n_in_bounds (omega arith) (omega arith)).0 in
+    let a = c.args in
+    let k = (Strings.in_list_lem a.tuple.now a.list.now a.work.now a.used a.at a.size a.from a.n c.requires.n_in_bounds (omega arith) (omega arith)).0 in
     omega arith
 
 pub returns-then-at-lt-IN_WORK : goal.returns-then-at-lt-IN_WORK
 returns-then-at-lt-IN_WORK c =
-    let o = c in
-    let a = o.args in
-    let k = (Strings.in_list_lem a.tuple.now a.list.now a.work.now a.used a.at a.size a.from a.n o.requires.n_in_bounds (omega arith) (omega arith)).1 in
+    let a = c.args in
+    let k = (Strings.in_list_lem a.tuple.now a.list.now a.work.now a.used a.at a.size a.from a.n c.requires.n_in_bounds (omega arith) (omega arith)).1 in
     placed _ _ a.work.now _ a.to _ (c.part_of-then-at-lt-IN_WORK.ensures ∙ k) c.write_bytes-then-at-lt-IN_WORK.ensures
 
 pub overflow_add-at-2 : goal.overflow_add-at-2
 overflow_add-at-2 c =
-    let o = c in
-    let a = o.args in
-    let k = (Strings.in_work_lem a.tuple.now a.list.now a.work.now a.used a.at a.size a.from a.n o.requires.n_in_bounds (omega arith)).0 in
+    let a = c.args in
+    let k = (Strings.in_work_lem a.tuple.now a.list.now a.work.now a.used a.at a.size a.from a.n c.requires.n_in_bounds (omega arith)).0 in
     omega arith
 
 pub copy_up-requires : goal.copy_up-requires
 copy_up-requires c =
-    let o = c in
-    let a = o.args in
-    let k = (Strings.in_work_lem a.tuple.now a.list.now a.work.now a.used a.at a.size a.from a.n o.requires.n_in_bounds (omega arith)).1.0 in
-    (omega arith, o.requires.used_le_to.1)
+    let a = c.args in
+    let k = (Strings.in_work_lem a.tuple.now a.list.now a.work.now a.used a.at a.size a.from a.n c.requires.n_in_bounds (omega arith)).1.0 in
+    (omega arith, c.requires.used_le_to.1)
 
 pub returns : goal.returns
 returns c =
-    let o = c in
-    let a = o.args in
-    let k = Strings.in_work_lem a.tuple.now a.list.now a.work.now a.used a.at a.size a.from a.n o.requires.n_in_bounds (omega arith) in
-    placed _ _ a.work.now _ a.to _ k.1.1 (Strings.pasted a.work.now (drop (a.at - in_work + a.from) a.work.now) _ a.to a.n (simp length-drop (omega arith)) o.requires.used_le_to.1 c.copy_up.ensures)
+    let a = c.args in
+    let k = Strings.in_work_lem a.tuple.now a.list.now a.work.now a.used a.at a.size a.from a.n c.requires.n_in_bounds (omega arith) in
+    placed _ _ a.work.now _ a.to _ k.1.1 (Strings.pasted a.work.now (drop (a.at - in_work + a.from) a.work.now) _ a.to a.n (simp length-drop (omega arith)) c.requires.used_le_to.1 c.copy_up.ensures)

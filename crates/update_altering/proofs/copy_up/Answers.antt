@@ -8,16 +8,14 @@ use Rattle.update_altering.proofs.copy_up.Goals as goal
 
 pub loop-i-preserved : goal.loop-i-preserved
 loop-i-preserved c =
-    let l = c in
-    let a = l.args in
-    (omega arith, (simp length-set (omega arith), up_turn a.s.now l.loop-i.s a.from a.to l.loop-i.i l.loop-i.invariant.1.1 (omega arith) (omega arith)))
+    let a = c.args in
+    (omega arith, (simp length-set (omega arith), up_turn a.s.now c.loop-i.s a.from a.to c.loop-i.i c.loop-i.invariant.1.1 (omega arith) (omega arith)))
 
 pub returns : goal.returns
 returns c =
-    let l = c in
-    let a = l.args in
-    let e : l.loop-i.i ≡ a.n = omega arith in
-    l.loop-i.invariant.1.1 ∙ ap (paste a.s.now a.to (drop a.from a.s.now)) e
+    let a = c.args in
+    let e : c.loop-i.i ≡ a.n = omega arith in
+    c.loop-i.invariant.1.1 ∙ ap (paste a.s.now a.to (drop a.from a.s.now)) e
 
 pub loop-i-init : goal.loop-i-init
 loop-i-init c = let a = c.args in (omega arith, (refl, paste-zero a.s.now a.to (drop a.from a.s.now)))

@@ -6,39 +6,30 @@ use Rattle.update_delivering.proofs.deliver_both.Goals as goal
 
 pub returns-then-undo_length-eq0 : goal.returns-then-undo_length-eq0
 returns-then-undo_length-eq0 c =
-    let o = c in
     let u = c.undo_length-undo_length in
-    (long-declined _ o.args.out.now o.args.undo.now (undo-refused o.requires.1 u.result u.ensures (omega arith)), omega arith)
+    (long-declined _ c.args.out.now c.args.undo.now (undo-refused c.requires.1 u.result u.ensures (omega arith)), omega arith)
 
 pub returns-then-out-length : goal.returns-then-out-length
 returns-then-out-length c =
-    let u = c in
-    let o = u in
-    let L = undo-limited o.requires.1 u.undo_length-undo_length.result u.undo_length-undo_length.ensures (λ e. omega arith) in
-    (out-short _ _ o.args.out.now o.args.undo.now (omega (arith, o.requires.0.long, u.tuple_length-length.ensures)) ∙ press-is _ o.args.out.now o.args.undo.now L.is, omega arith)
+    let L = undo-limited c.requires.1 c.undo_length-undo_length.result c.undo_length-undo_length.ensures (λ e. omega arith) in
+    (out-short _ _ c.args.out.now c.args.undo.now (omega (arith, c.requires.0.long, c.tuple_length-length.ensures)) ∙ press-is _ c.args.out.now c.args.undo.now L.is, omega arith)
 
 pub returns-then-undo-undo_length : goal.returns-then-undo-undo_length
 returns-then-undo-undo_length c =
-    let u = c in
-    let o = u in
-    let L = undo-limited o.requires.1 u.undo_length-undo_length.result u.undo_length-undo_length.ensures (λ e. omega arith) in
-    (undo-short _ _ o.args.out.now o.args.undo.now (omega (arith, L.long)) (omega (arith, o.requires.0.long, u.tuple_length-length.ensures)) ∙ press-is _ o.args.out.now o.args.undo.now L.is, omega arith)
+    let L = undo-limited c.requires.1 c.undo_length-undo_length.result c.undo_length-undo_length.ensures (λ e. omega arith) in
+    (undo-short _ _ c.args.out.now c.args.undo.now (omega (arith, L.long)) (omega (arith, c.requires.0.long, c.tuple_length-length.ensures)) ∙ press-is _ c.args.out.now c.args.undo.now L.is, omega arith)
 
 pub write_undo-requires : goal.write_undo-requires
 write_undo-requires c =
-    let u = c in
-    let o = u in
-    let L = undo-limited o.requires.1 u.undo_length-undo_length.result u.undo_length-undo_length.ensures (λ e. omega arith) in
-    (o.requires.1.entries L.few, omega (arith, L.long))
+    let L = undo-limited c.requires.1 c.undo_length-undo_length.result c.undo_length-undo_length.ensures (λ e. omega arith) in
+    (c.requires.1.entries L.few, omega (arith, L.long))
 
 pub returns : goal.returns
 returns c =
-    let u = c in
-    let o = u in
-    let L = undo-limited o.requires.1 u.undo_length-undo_length.result u.undo_length-undo_length.ensures c.if-undo_length-eq0.false in
-    both-written _ _ o.args.out.now o.args.undo.now (u.tuple_length-length.ensures ∙ o.requires.0.long) L.long
-    (omega (arith, o.requires.0.long, u.tuple_length-length.ensures, c.if-out-length.false)) (omega (arith, L.long, c.if-undo-undo_length.false)) c.write_tuple.ensures c.write_undo.ensures
-    ∙ press-is _ o.args.out.now o.args.undo.now L.is
+    let L = undo-limited c.requires.1 c.undo_length-undo_length.result c.undo_length-undo_length.ensures c.if-undo_length-eq0.false in
+    both-written _ _ c.args.out.now c.args.undo.now (c.tuple_length-length.ensures ∙ c.requires.0.long) L.long
+    (omega (arith, c.requires.0.long, c.tuple_length-length.ensures, c.if-out-length.false)) (omega (arith, L.long, c.if-undo-undo_length.false)) c.write_tuple.ensures c.write_undo.ensures
+    ∙ press-is _ c.args.out.now c.args.undo.now L.is
 
 pub tuple_length-length-requires : goal.tuple_length-length-requires
 tuple_length-length-requires c = let p = c.requires.0 in (omega (arith, p.few), omega (arith, few_bytes p))

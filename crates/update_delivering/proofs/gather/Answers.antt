@@ -7,38 +7,29 @@ use Rattle.update_delivering.proofs.gather.Goals as goal
 
 pub gather_side-a-requires : goal.gather_side-a-requires
 gather_side-a-requires c =
-    let r = c in
-    let p = r.requires in
-    let e = r.rear_from-last.ensures in
-    (gathers_front p.0 p.1 r.rear_from-last.result e.0 e.1 e.2, p.1.front)
+    let p = c.requires in
+    let e = c.rear_from-last.ensures in
+    (gathers_front p.0 p.1 c.rear_from-last.result e.0 e.1 e.2, p.1.front)
 
 pub gather_each-b-requires : goal.gather_each-b-requires
 gather_each-b-requires c =
-    let f = c in
-    let r = f in
-    let p = r.requires in
-    let e = r.rear_from-last.ensures in
-    gathers_middle p.0 p.1 r.rear_from-last.result e.0 e.1 e.2 f.gather_side-a.ensures
+    let p = c.requires in
+    let e = c.rear_from-last.ensures in
+    gathers_middle p.0 p.1 c.rear_from-last.result e.0 e.1 e.2 c.gather_side-a.ensures
 
 pub gather_side-requires : goal.gather_side-requires
 gather_side-requires c =
-    let g = c in
-    let f = g in
-    let r = f in
-    let p = r.requires in
-    let e = r.rear_from-last.ensures in (
-      gathers_rear p.0 p.1 r.rear_from-last.result e.0 e.1 e.2 f.gather_side-a.ensures g.gather_each-b.ensures,
-      rear_side p.0 p.1 r.rear_from-last.result e.0 e.1 e.2,
+    let p = c.requires in
+    let e = c.rear_from-last.ensures in (
+      gathers_rear p.0 p.1 c.rear_from-last.result e.0 e.1 e.2 c.gather_side-a.ensures c.gather_each-b.ensures,
+      rear_side p.0 p.1 c.rear_from-last.result e.0 e.1 e.2,
     )
 
 pub returns : goal.returns
 returns c =
-    let g = c in
-    let f = g in
-    let r = f in
-    let p = r.requires in
-    let e = r.rear_from-last.ensures in
-    written (gathered_all p.0 p.1 r.rear_from-last.result e.0 e.1 e.2 f.gather_side-a.ensures g.gather_each-b.ensures c.gather_side.ensures)
+    let p = c.requires in
+    let e = c.rear_from-last.ensures in
+    written (gathered_all p.0 p.1 c.rear_from-last.result e.0 e.1 e.2 c.gather_side-a.ensures c.gather_each-b.ensures c.gather_side.ensures)
 
 pub slice_bounds-gather_side-end : goal.slice_bounds-gather_side-end
-slice_bounds-gather_side-end c = let o = c in sym (length-take-le o.args.low o.args.entries.now o.requires.1.low_fits)
+slice_bounds-gather_side-end c = sym (length-take-le c.args.low c.args.entries.now c.requires.1.low_fits)

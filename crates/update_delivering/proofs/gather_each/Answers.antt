@@ -7,28 +7,23 @@ use Rattle.update_delivering.proofs.gather_each.Goals as goal
 
 pub overflow_sub-run : goal.overflow_sub-run
 overflow_sub-run c =
-    let l = c in
-    omega (arith, reach-le c.start_of-from.result (drop l.loop-i.i l.args.entries.now), c.run_from-run.ensures.0)
+    omega (arith, reach-le c.start_of-from.result (drop c.loop-i.i c.args.entries.now), c.run_from-run.ensures.0)
 
 pub loop-i-smaller : goal.loop-i-smaller
 loop-i-smaller c =
-    let r = c in
-    let l = r in
-    let p = l.requires in
-    let f = further p l.loop-i.i (omega arith) _ _ _ r.start_of-from.ensures.0 r.run_from-run.ensures.0 r.run_from-run.ensures.1 in
+    let p = c.requires in
+    let f = further p c.loop-i.i (omega arith) _ _ _ c.start_of-from.ensures.0 c.run_from-run.ensures.0 c.run_from-run.ensures.1 in
     omega (arith, f.0, f.1)
 
 pub loop-i-preserved : goal.loop-i-preserved
 loop-i-preserved c =
-    let r = c in
-    let l = r in
-    let p = l.requires in (
-      (further p l.loop-i.i (omega arith) _ _ _ r.start_of-from.ensures.0 r.run_from-run.ensures.0 r.run_from-run.ensures.1).1,
-      gathered p l.loop-i.i (omega arith) _ _ _ r.start_of-from.ensures.0 r.run_from-run.ensures.0 r.run_from-run.ensures.1 l.loop-i.invariant.1 c.copy_from-to.ensures,
+    let p = c.requires in (
+      (further p c.loop-i.i (omega arith) _ _ _ c.start_of-from.ensures.0 c.run_from-run.ensures.0 c.run_from-run.ensures.1).1,
+      gathered p c.loop-i.i (omega arith) _ _ _ c.start_of-from.ensures.0 c.run_from-run.ensures.0 c.run_from-run.ensures.1 c.loop-i.invariant.1 c.copy_from-to.ensures,
     )
 
 pub returns : goal.returns
-returns c = let l = c in written (ended l.requires l.loop-i.i (omega arith) l.loop-i.invariant.1)
+returns c = written (ended c.requires c.loop-i.i (omega arith) c.loop-i.invariant.1)
 
 pub loop-i-init : goal.loop-i-init
 loop-i-init c = (omega arith, begun c.requires)

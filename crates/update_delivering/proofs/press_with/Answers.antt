@@ -5,38 +5,30 @@ use Rattle.update_delivering.proofs.press_with.Goals as goal
 
 pub deliver_both-requires : goal.deliver_both-requires
 deliver_both-requires c =
-    let s = c in
-    let k = s in
-    let K = rw c.in-Done.is at k.carry_out.ensures in
+    let K = rw c.in-Done.is at c.carry_out.ensures in
     (carried_stands K, carried_undoes K c.carry_out.auto.back)
 
 pub returns-in-NoRoom : goal.returns-in-NoRoom
 returns-in-NoRoom c =
-    let k = c in
-    let a = k.args in (
+    let a = c.args in (
       refl,
       refl,
-      inl (lacks a.table.now a.work.now k.carry_out.new.table k.carry_out.new.work c.carry_out.auto.table c.carry_out.auto.work
-          (rw c.in-NoRoom.is at k.carry_out.ensures)),
+      inl (lacks a.table.now a.work.now c.carry_out.new.table c.carry_out.new.work c.carry_out.auto.table c.carry_out.auto.work
+          (rw c.in-NoRoom.is at c.carry_out.ensures)),
     )
 
 pub returns-in-Full : goal.returns-in-Full
 returns-in-Full c =
-    let k = c in
-    let a = k.args in
-    (refl, refl, inr (stalled_long (rw c.in-Full.is at k.carry_out.ensures) a.work.now c.carry_out.auto.work))
+    let a = c.args in
+    (refl, refl, inr (stalled_long (rw c.in-Full.is at c.carry_out.ensures) a.work.now c.carry_out.auto.work))
 
 pub returns-in-Refused : goal.returns-in-Refused
 returns-in-Refused c =
-    let s = c in
-    let k = s in
-    let a = k.args in
-    let e = rw s.in-Refused.is at k.carry_out.ensures in
+    let a = c.args in
+    let e = rw c.in-Refused.is at c.carry_out.ensures in
     (press-refused _ _ _ _ a.out.now a.undo.now e.0, e.1)
 
 pub returns-in-Done : goal.returns-in-Done
 returns-in-Done c =
-    let s = c in
-    let k = s in
-    let a = k.args in
-    tries_press (rw c.in-Done.is at k.carry_out.ensures) c.deliver_both.result a.work.now a.out.now _ a.undo.now _ a.table.now c.carry_out.auto.back c.deliver_both.ensures
+    let a = c.args in
+    tries_press (rw c.in-Done.is at c.carry_out.ensures) c.deliver_both.result a.work.now a.out.now _ a.undo.now _ a.table.now c.carry_out.auto.back c.deliver_both.ensures

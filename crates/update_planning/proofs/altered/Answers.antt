@@ -14,30 +14,25 @@ returns-then-n-f c =
 
 pub overflow_sub-to : goal.overflow_sub-to
 overflow_sub-to c =
-    let m = c in
-    let a = m.args in
-    let h = altered-further a.tuple.now a.list.now a.work.now a.used a.old a.end a.change m.alter.ensures.0 c.in-Is.is in
+    let a = c.args in
+    let h = altered-further a.tuple.now a.list.now a.work.now a.used a.old a.end a.change c.alter.ensures.0 c.in-Is.is in
     omega (arith, h)
 
 pub returns-in-Refused : goal.returns-in-Refused
 returns-in-Refused c =
-    let m = c in
-    let a = m.args in
-    altered_as a.tuple.now a.list.now a.work.now a.used a.old a.n a.end a.f a.change (omega arith) m.alter.ensures
+    let a = c.args in
+    altered_as a.tuple.now a.list.now a.work.now a.used a.old a.n a.end a.f a.change (omega arith) c.alter.ensures
     c.in-Refused.is refl
 
 pub returns-in-Full : goal.returns-in-Full
 returns-in-Full c =
-    let m = c in
-    let a = m.args in
-    altered_as a.tuple.now a.list.now a.work.now a.used a.old a.n a.end a.f a.change (omega arith) m.alter.ensures
+    let a = c.args in
+    altered_as a.tuple.now a.list.now a.work.now a.used a.old a.n a.end a.f a.change (omega arith) c.alter.ensures
     c.in-Full.is refl
 
 pub returns-in-Is : goal.returns-in-Is
 returns-in-Is c =
-    let k = c in
-    let m = k in
-    let a = m.args in
-    let to = k.in-Is.to in
-    altered_as a.tuple.now a.list.now a.work.now a.used a.old a.n a.end a.f a.change (omega arith) m.alter.ensures
-    k.in-Is.is (ap (λ (q : ℕ). Put a.f q to) (c.place_of.ensures ∙ round in_work a.used (to - a.used)))
+    let a = c.args in
+    let to = c.in-Is.to in
+    altered_as a.tuple.now a.list.now a.work.now a.used a.old a.n a.end a.f a.change (omega arith) c.alter.ensures
+    c.in-Is.is (ap (λ (q : ℕ). Put a.f q to) (c.place_of.ensures ∙ round in_work a.used (to - a.used)))

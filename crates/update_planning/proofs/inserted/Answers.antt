@@ -6,12 +6,11 @@ use Rattle.update_planning.proofs.inserted.Goals as goal
 
 pub returns : goal.returns
 returns c =
-    let s = c in
-    let a = s.args in
-    inserted_add a.f a.n a.start a.end s.span-long.ensures (omega arith) (omega arith) c.in_list.ensures
+    let a = c.args in
+    inserted_add a.f a.n a.start a.end c.span-long.ensures (omega arith) (omega arith) c.in_list.ensures
 
 pub returns-then-n-f : goal.returns-then-n-f
 returns-then-n-f c = let a = c.args in inserted_past a.f a.n a.start a.end refl (omega arith)
 
 pub returns-then-long-gt-MAX_TUPLE : goal.returns-then-long-gt-MAX_TUPLE
-returns-then-long-gt-MAX_TUPLE c = let s = c in let a = s.args in inserted_long a.f a.n a.start a.end s.span-long.ensures (omega arith) (omega arith)
+returns-then-long-gt-MAX_TUPLE c = let a = c.args in inserted_long a.f a.n a.start a.end c.span-long.ensures (omega arith) (omega arith)

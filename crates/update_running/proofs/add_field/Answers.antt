@@ -6,23 +6,17 @@ use Rattle.update_running.proofs.add_field.Goals as goal
 
 pub returns-then-not-fits : goal.returns-then-not-fits
 returns-then-not-fits c =
-    let k = c in
-    let a = k.args in
-    add-refused a.stage a.table.now a.back.now a.f a.p _ _ k.length_of.ensures.0 c.fits.ensures c.if-not-fits.true
+    let a = c.args in
+    add-refused a.stage a.table.now a.back.now a.f a.p _ _ c.length_of.ensures.0 c.fits.ensures c.if-not-fits.true
 
 short : (c : After-unsigned_length) → c.unsigned_length.result ≤ 9
 short c = form_short _ _ c.unsigned_length.ensures
 
 pub returns : goal.returns
 returns c =
-    let u = c in
-    let d = u in
-    let y = d in
-    let q = y in
-    let k = q in
-    let a = k.args in
-    add_done a.stage a.table.now a.back.now a.f a.p _ _ k.length_of.ensures.0 q.fits.ensures q.if-not-fits.false
-    _ _ _ _ _ _ _ u.unsigned_length.ensures c.least.ensures c.least-2.ensures y.entry_of.ensures d.lay.ensures d.add-head.ensures
+    let a = c.args in
+    add_done a.stage a.table.now a.back.now a.f a.p _ _ c.length_of.ensures.0 c.fits.ensures c.if-not-fits.false
+    _ _ _ _ _ _ _ c.unsigned_length.ensures c.least.ensures c.least-2.ensures c.entry_of.ensures c.lay.ensures c.add-head.ensures
 
 pub overflow_add-result-3 : goal.overflow_add-result-3
 overflow_add-result-3 c = omega (arith, short c)

@@ -12,11 +12,10 @@ use Rattle.update_running.proofs.lay_removed.Goals as goal
 
 pub loop-i-preserved : goal.loop-i-preserved
 loop-i-preserved c =
-    let e = c in
-    let l = e.loop-i in
-    let a = e.args in
+    let l = c.loop-i in
+    let a = c.args in
     let t : c.lay.new.back ≡ set l.back (a.laid + l.i) (entry_of 0x21 a.f (get_or a.table.now (a.from + l.i) 0))
-    = c.lay.ensures ∙ ap (set l.back (a.laid + l.i)) e.entry_of.ensures in (
+    = c.lay.ensures ∙ ap (set l.back (a.laid + l.i)) c.entry_of.ensures in (
       omega arith,
       ap length t ∙ simp length-set l.invariant.1,
       ap (laid_from (a.laid + (l.i + 1)) (map (entry_of 0x21 a.f) (window (a.from + (l.i + 1)) (a.m - (l.i + 1)) a.table.now))) t

@@ -12,30 +12,24 @@ returns-in-Full c = let a = c.args in by_plan a.stage a.table.now a.back.now _ _
 
 pub returns-in-Put : goal.returns-in-Put
 returns-in-Put c =
-    let p = c in
-    let q = p in
-    let a = q.args in
-    by_plan a.stage a.table.now a.back.now _ _ _ _ _ q.in-Put.is p.put_field.ensures
+    let a = c.args in
+    by_plan a.stage a.table.now a.back.now _ _ _ _ _ c.in-Put.is c.put_field.ensures
 
 pub returns-in-Add : goal.returns-in-Add
 returns-in-Add c =
-    let p = c in
-    let q = p in
-    let a = q.args in
-    by_plan a.stage a.table.now a.back.now _ _ _ _ _ q.in-Add.is p.add_field.ensures
+    let a = c.args in
+    by_plan a.stage a.table.now a.back.now _ _ _ _ _ c.in-Add.is c.add_field.ensures
 
 pub returns-in-Cut : goal.returns-in-Cut
 returns-in-Cut c =
-    let p = c in
-    let q = p in
-    let a = q.args in
-    by_plan a.stage a.table.now a.back.now _ _ _ _ _ q.in-Cut.is p.cut_fields.ensures
+    let a = c.args in
+    by_plan a.stage a.table.now a.back.now _ _ _ _ _ c.in-Cut.is c.cut_fields.ensures
 
 pub put_field-requires : goal.put_field-requires
-put_field-requires c = let o = c in (o.requires.0, subst (λ (x : Planned). Among x o.args.stage.fields) c.in-Put.is o.requires.1)
+put_field-requires c = (c.requires.0, subst (λ (x : Planned). Among x c.args.stage.fields) c.in-Put.is c.requires.1)
 
 pub add_field-requires : goal.add_field-requires
-add_field-requires c = let o = c in (o.requires.0, subst (λ (x : Planned). Among x o.args.stage.fields) c.in-Add.is o.requires.1)
+add_field-requires c = (c.requires.0, subst (λ (x : Planned). Among x c.args.stage.fields) c.in-Add.is c.requires.1)
 
 pub cut_fields-requires : goal.cut_fields-requires
-cut_fields-requires c = let o = c in (o.requires.0, subst (λ (x : Planned). Among x o.args.stage.fields) c.in-Cut.is o.requires.1)
+cut_fields-requires c = (c.requires.0, subst (λ (x : Planned). Among x c.args.stage.fields) c.in-Cut.is c.requires.1)

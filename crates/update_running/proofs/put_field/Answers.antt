@@ -7,18 +7,16 @@ use Rattle.update_running.proofs.put_field.Goals as goal
 
 pub overflow_sub-bytes : goal.overflow_sub-bytes
 overflow_sub-bytes c =
-    let o = c in
-    let a = o.args in
-    let h = one-sum length_of a.stage.head a.stage.fields a.f a.table.now o.requires.1 o.requires.0.inside in
+    let a = c.args in
+    let h = one-sum length_of a.stage.head a.stage.fields a.f a.table.now c.requires.1 c.requires.0.inside in
     let e = c.length_of-gone.ensures.0 in
-    let b = o.requires.0.bytes in
+    let b = c.requires.0.bytes in
     omega (arith, h, e, b)
 
 pub returns-then-not-fits : goal.returns-then-not-fits
 returns-then-not-fits c =
-    let k = c in
-    let a = k.args in
-    put_refused a.stage a.table.now a.back.now a.f a.p a.used _ _ _ k.length_of-gone.ensures.0 c.length_of.ensures.0
+    let a = c.args in
+    put_refused a.stage a.table.now a.back.now a.f a.p a.used _ _ _ c.length_of-gone.ensures.0 c.length_of.ensures.0
     c.fits.ensures c.if-not-fits.true
 
 short : (c : After-unsigned_length) → c.unsigned_length.result ≤ 9
@@ -26,19 +24,14 @@ short c = form_short _ _ c.unsigned_length.ensures
 
 pub overflow_add-result-4 : goal.overflow_add-result-4
 overflow_add-result-4 c =
-    let k = c in
-    omega (arith, form_short _ _ c.unsigned_length.ensures, k.length_of-gone.ensures.1, k.requires.0.back)
+    omega (arith, form_short _ _ c.unsigned_length.ensures, c.length_of-gone.ensures.1, c.requires.0.back)
 
 pub returns : goal.returns
 returns c =
-    let u = c in
-    let y = u in
-    let q = y in
-    let k = q in
-    let a = k.args in
-    put-done a.stage a.table.now a.back.now a.f a.p a.used _ _ _ k.length_of-gone.ensures.0 q.length_of.ensures.0
-    q.fits.ensures q.if-not-fits.false _ _ _ _ _ u.unsigned_length.ensures c.least.ensures c.least-2.ensures
-    y.entry_of.ensures u.lay.ensures
+    let a = c.args in
+    put-done a.stage a.table.now a.back.now a.f a.p a.used _ _ _ c.length_of-gone.ensures.0 c.length_of.ensures.0
+    c.fits.ensures c.if-not-fits.false _ _ _ _ _ c.unsigned_length.ensures c.least.ensures c.least-2.ensures
+    c.entry_of.ensures c.lay.ensures
 
 pub overflow_add-result-2 : goal.overflow_add-result-2
 overflow_add-result-2 c = omega (arith, short c)

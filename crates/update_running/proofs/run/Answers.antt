@@ -11,14 +11,13 @@ use Rattle.update_running.proofs.Turning.{course_sound, turn_next, turn_full, co
 use Rattle.update_running.proofs.run.Goals as goal
 
 pub loop-i-init : goal.loop-i-init
-loop-i-init c = let o = c in (course_begins o.requires, (refl, (refl, refl)))
+loop-i-init c = (course_begins c.requires, (refl, (refl, refl)))
 
 pub returns-in_default : goal.returns-in_default
 returns-in_default c =
     let g = c.loop-i in
-    let o = c in
-    let a = o.args in (
-      course_bad a.base a.count a.first a.start _ a.tuple.now a.list.now g.work g.table g.back g.i g.at o.requires.few o.requires.short (omega arith) g.course g.invariant.0
+    let a = c.args in (
+      course_bad a.base a.count a.first a.start _ a.tuple.now a.list.now g.work g.table g.back g.i g.at c.requires.few c.requires.short (omega arith) g.course g.invariant.0
           (operation_bad a.base a.list.now g.at c.operation_at.ensures c.in_default.is),
       omega arith,
     )
@@ -31,14 +30,11 @@ step-requires c =
 
 pub returns-in-Full : goal.returns-in-Full
 returns-in-Full c =
-    let k = c in
-    let f = k in
-    let g = k.loop-i in
-    let o = k in
-    let a = o.args in
-    let d = operation-is a.base a.list.now g.at f.operation_at.ensures f.in-Is.is in
-    let room : length g.work ≤ work_room = let e = g.invariant.1.0 in let h = o.requires.work in omega arith in
-    turn_full a.base a.count a.first a.start _ a.tuple.now a.list.now g.work g.table g.back g.i g.at o.requires.few o.requires.short (omega arith) room d o.requires.sources g.course _ _ _ _ _ g.invariant.0 k.step.ensures c.in-Full.is
+    let g = c.loop-i in
+    let a = c.args in
+    let d = operation-is a.base a.list.now g.at c.operation_at.ensures c.in-Is.is in
+    let room : length g.work ≤ work_room = let e = g.invariant.1.0 in let h = c.requires.work in omega arith in
+    turn_full a.base a.count a.first a.start _ a.tuple.now a.list.now g.work g.table g.back g.i g.at c.requires.few c.requires.short (omega arith) room d c.requires.sources g.course _ _ _ _ _ g.invariant.0 c.step.ensures c.in-Full.is
 
 pub overflow_add-i : goal.overflow_add-i
 overflow_add-i c = omega arith
@@ -48,19 +44,15 @@ loop-i-smaller c = omega arith
 
 pub loop-i-preserved : goal.loop-i-preserved
 loop-i-preserved c =
-    let k = c in
-    let f = k in
-    let g = k.loop-i in
-    let o = k in
-    let a = o.args in
-    let d = operation-is a.base a.list.now g.at f.operation_at.ensures f.in-Is.is in
-    let room : length g.work ≤ work_room = let e = g.invariant.1.0 in let h = o.requires.work in omega arith in
-    let n = turn_next a.base a.count a.first a.start _ a.tuple.now a.list.now g.work g.table g.back g.i g.at o.requires.few o.requires.short (omega arith) room d g.course _ _ _ _ _ g.invariant.0 k.step.ensures c.in-Next.is in
+    let g = c.loop-i in
+    let a = c.args in
+    let d = operation-is a.base a.list.now g.at c.operation_at.ensures c.in-Is.is in
+    let room : length g.work ≤ work_room = let e = g.invariant.1.0 in let h = c.requires.work in omega arith in
+    let n = turn_next a.base a.count a.first a.start _ a.tuple.now a.list.now g.work g.table g.back g.i g.at c.requires.few c.requires.short (omega arith) room d g.course _ _ _ _ _ g.invariant.0 c.step.ensures c.in-Next.is in
     (n.0, (n.1 ∙ g.invariant.1.0, (search rules, search rules)))
 
 pub returns : goal.returns
 returns c =
     let g = c.loop-i in
-    let o = c in
-    let a = o.args in
-    course_finished a.base a.count a.first a.start _ a.tuple.now a.list.now g.work g.table g.back g.i g.at g.course _ o.requires.few o.requires.short (omega arith) o.requires.sources g.invariant.0 c.finished.ensures
+    let a = c.args in
+    course_finished a.base a.count a.first a.start _ a.tuple.now a.list.now g.work g.table g.back g.i g.at g.course _ c.requires.few c.requires.short (omega arith) c.requires.sources g.invariant.0 c.finished.ensures

@@ -10,51 +10,35 @@ use Rattle.update_running.proofs.step.Goals as goal
 
 pub entry_at-old-requires : goal.entry_at-old-requires
 entry_at-old-requires c =
-    let o = c in
-    let s = subst (λ (x : Course). CourseSound x o.args.table.now) c.in-Going.is o.requires in
+    let s = subst (λ (x : Course). CourseSound x c.args.table.now) c.in-Going.is c.requires in
     s.inside
 
 pub perform-requires : goal.perform-requires
 perform-requires c =
-    let g = c in
-    let k = g in
-    let a = k.args in
-    let o = k in
-    let z = k.in-Going.stage in
-    let s = subst (λ (x : Course). CourseSound x a.table.now) k.in-Going.is o.requires in
-    (s, subst (λ (p : Planned). Among p z.fields) (sym g.plan-plan.ensures.0) (planned-among a.tuple.now a.list.now a.work.now z.used g.entry_at-old.result z.fields a.field a.action a.end))
+    let a = c.args in
+    let z = c.in-Going.stage in
+    let s = subst (λ (x : Course). CourseSound x a.table.now) c.in-Going.is c.requires in
+    (s, subst (λ (p : Planned). Among p z.fields) (sym c.plan-plan.ensures.0) (planned-among a.tuple.now a.list.now a.work.now z.used c.entry_at-old.result z.fields a.field a.action a.end))
 
 pub returns-in-Stopped : goal.returns-in-Stopped
 returns-in-Stopped c =
-    let o = c in
-    let a = o.args in
+    let a = c.args in
     by_course a.tuple.now a.list.now a.work.now a.table.now a.back.now a.field a.action a.end a.i _ _ _ _ _ _ c.in-Stopped.is (refl, refl, refl, refl)
 
 pub returns-in-Stop : goal.returns-in-Stop
 returns-in-Stop c =
-    let m = c in
-    let p = m in
-    let q = p in
-    let k = q in
-    let a = k.args in
-    by_course a.tuple.now a.list.now a.work.now a.table.now a.back.now a.field a.action a.end a.i _ _ _ _ _ _ k.in-Going.is
-    (step_going a.tuple.now a.list.now a.work.now a.table.now a.back.now a.field a.action a.end a.i _ _ _ _ _ _ _ _ q.entry_at-old.ensures q.plan-plan.ensures p.perform.ensures m.in-Stop.is)
+    let a = c.args in
+    by_course a.tuple.now a.list.now a.work.now a.table.now a.back.now a.field a.action a.end a.i _ _ _ _ _ _ c.in-Going.is
+    (step_going a.tuple.now a.list.now a.work.now a.table.now a.back.now a.field a.action a.end a.i _ _ _ _ _ _ _ _ c.entry_at-old.ensures c.plan-plan.ensures c.perform.ensures c.in-Stop.is)
 
 pub returns-in-Full : goal.returns-in-Full
 returns-in-Full c =
-    let p = c in
-    let q = p in
-    let k = q in
-    let a = k.args in
-    by_course a.tuple.now a.list.now a.work.now a.table.now a.back.now a.field a.action a.end a.i _ _ _ _ _ _ k.in-Going.is
-    (step_going a.tuple.now a.list.now a.work.now a.table.now a.back.now a.field a.action a.end a.i _ _ _ _ _ _ _ _ q.entry_at-old.ensures q.plan-plan.ensures p.perform.ensures c.in-Full.is)
+    let a = c.args in
+    by_course a.tuple.now a.list.now a.work.now a.table.now a.back.now a.field a.action a.end a.i _ _ _ _ _ _ c.in-Going.is
+    (step_going a.tuple.now a.list.now a.work.now a.table.now a.back.now a.field a.action a.end a.i _ _ _ _ _ _ _ _ c.entry_at-old.ensures c.plan-plan.ensures c.perform.ensures c.in-Full.is)
 
 pub returns-in-Next : goal.returns-in-Next
 returns-in-Next c =
-    let m = c in
-    let p = m in
-    let q = p in
-    let k = q in
-    let a = k.args in
-    by_course a.tuple.now a.list.now a.work.now a.table.now a.back.now a.field a.action a.end a.i _ _ _ _ _ _ k.in-Going.is
-    (step_going a.tuple.now a.list.now a.work.now a.table.now a.back.now a.field a.action a.end a.i _ _ _ _ _ _ _ _ q.entry_at-old.ensures q.plan-plan.ensures p.perform.ensures m.in-Next.is)
+    let a = c.args in
+    by_course a.tuple.now a.list.now a.work.now a.table.now a.back.now a.field a.action a.end a.i _ _ _ _ _ _ c.in-Going.is
+    (step_going a.tuple.now a.list.now a.work.now a.table.now a.back.now a.field a.action a.end a.i _ _ _ _ _ _ _ _ c.entry_at-old.ensures c.plan-plan.ensures c.perform.ensures c.in-Next.is)

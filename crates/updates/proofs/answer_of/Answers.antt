@@ -18,9 +18,8 @@ returns-in-Written c = rw c.in-Written.is
 
 pub returns-in-Refused : goal.returns-in-Refused
 returns-in-Refused c =
-    let k = c in
-    let a = k.args in
-    c.with_place.ensures ∙ ap (λ (r : Answer). answer_at (spoiled_in r.number a.tuple.now a.list.now) r) c.refused.ensures ∙ ap (λ (x : Call). answer_by x a.tuple.now a.list.now) (sym k.in-Refused.is)
+    let a = c.args in
+    c.with_place.ensures ∙ ap (λ (r : Answer). answer_at (spoiled_in r.number a.tuple.now a.list.now) r) c.refused.ensures ∙ ap (λ (x : Call). answer_by x a.tuple.now a.list.now) (sym c.in-Refused.is)
 
 pub returns-in-NoRoom : goal.returns-in-NoRoom
 returns-in-NoRoom c =

@@ -4,10 +4,10 @@ use Rattle.updates.proofs.Calls.{judges}
 use Rattle.updates.proofs.judged.Goals as goal
 
 pub returns-in-Refused : goal.returns-in-Refused
-returns-in-Refused c = rw c.in-Refused.is at (let u = c in let a = u.args in judges a.tuple.now a.list.now a.base u.updated.result _ _ (omega arith) u.updated.ensures)
+returns-in-Refused c = rw c.in-Refused.is at (let a = c.args in judges a.tuple.now a.list.now a.base c.updated.result _ _ (omega arith) c.updated.ensures)
 
 pub returns-in-Written : goal.returns-in-Written
-returns-in-Written c = rw c.in-Written.is at (let u = c in let a = u.args in judges a.tuple.now a.list.now a.base u.updated.result _ _ (omega arith) u.updated.ensures)
+returns-in-Written c = rw c.in-Written.is at (let a = c.args in judges a.tuple.now a.list.now a.base c.updated.result _ _ (omega arith) c.updated.ensures)
 
 pub returns-in-NoRoom : goal.returns-in-NoRoom
-returns-in-NoRoom c = rw c.in-NoRoom.is at (let u = c in let a = u.args in judges a.tuple.now a.list.now a.base u.updated.result _ _ (omega arith) u.updated.ensures)
+returns-in-NoRoom c = rw c.in-NoRoom.is at (let a = c.args in judges a.tuple.now a.list.now a.base c.updated.result _ _ (omega arith) c.updated.ensures)

@@ -5,7 +5,5 @@ use Rattle.updates.proofs.press_long.Goals as goal
 
 pub returns : goal.returns
 returns c =
-    let u = c in
-    let s = u in
-    let a = s.args in
-    told-long-press a.tuple.now a.list.now a.base a.front s.requires a.out.now _ a.back.now _ u.press_with.result _ a.table.now (omega arith) (omega arith) u.press_with.ensures
+    let a = c.args in
+    told-long-press a.tuple.now a.list.now a.base a.front c.requires a.out.now _ a.back.now _ c.press_with.result _ a.table.now (omega arith) (omega arith) c.press_with.ensures

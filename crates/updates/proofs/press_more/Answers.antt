@@ -4,17 +4,13 @@ use Rattle.updates.proofs.press_more.Goals as goal
 
 pub returns-in-Refused : goal.returns-in-Refused
 returns-in-Refused c =
-    let u = c in
-    let s = u in
-    let a = s.args in
-    rw c.in-Refused.is at (told-press a.tuple.now a.list.now a.base a.front s.requires a.out.now _ a.back.now _ u.press_with.result _ _ u.press_with.ensures)
+    let a = c.args in
+    rw c.in-Refused.is at (told-press a.tuple.now a.list.now a.base a.front c.requires a.out.now _ a.back.now _ c.press_with.result _ _ c.press_with.ensures)
 
 pub returns-in-Written : goal.returns-in-Written
 returns-in-Written c =
-    let u = c in
-    let s = u in
-    let a = s.args in
-    rw c.in-Written.is at (told-press a.tuple.now a.list.now a.base a.front s.requires a.out.now _ a.back.now _ u.press_with.result _ _ u.press_with.ensures)
+    let a = c.args in
+    rw c.in-Written.is at (told-press a.tuple.now a.list.now a.base a.front c.requires a.out.now _ a.back.now _ c.press_with.result _ _ c.press_with.ensures)
 
 pub returns-in-NoRoom : goal.returns-in-NoRoom
 returns-in-NoRoom c =

@@ -7,25 +7,22 @@ use Rattle.updates.proofs.undo.Goals as goal
 pub returns-in-Written : goal.returns-in-Written
 unfolding undo_call
 returns-in-Written c =
-    let u = c in
-    let a = u.args in
+    let a = c.args in
     let n = c.in-Written in
-    rw c.answer_of.ensures (answers a.tuple.now a.list.now (Written n.length) (undo a.tuple.now a.list.now a.index_base) a.out.now _ (rw n.is at u.undone.ensures))
+    rw c.answer_of.ensures (answers a.tuple.now a.list.now (Written n.length) (undo a.tuple.now a.list.now a.index_base) a.out.now _ (rw n.is at c.undone.ensures))
 
 pub returns-in-Refused : goal.returns-in-Refused
 unfolding undo_call
 returns-in-Refused c =
-    let u = c in
-    let a = u.args in
+    let a = c.args in
     let n = c.in-Refused in
-    rw c.answer_of-in-Refused.ensures (answers a.tuple.now a.list.now (Refused n.refusal n.i) (undo a.tuple.now a.list.now a.index_base) a.out.now _ (rw n.is at u.undone.ensures))
+    rw c.answer_of-in-Refused.ensures (answers a.tuple.now a.list.now (Refused n.refusal n.i) (undo a.tuple.now a.list.now a.index_base) a.out.now _ (rw n.is at c.undone.ensures))
 
 pub returns-in-NoRoom : goal.returns-in-NoRoom
 unfolding undo_call
 returns-in-NoRoom c =
-    let u = c in
-    let a = u.args in
-    let n = rw c.in-NoRoom.is at u.undone.ensures in
+    let a = c.args in
+    let n = rw c.in-NoRoom.is at c.undone.ensures in
     rw c.answer_of-in-NoRoom.ensures (answers-long a.tuple.now a.list.now a.index_base c.judged.result (undo a.tuple.now a.list.now a.index_base) a.out.now _ n.0 n.1 c.judged.ensures)
 
 pub answer_of-requires-in-Refused : goal.answer_of-requires-in-Refused

@@ -4,7 +4,5 @@ use Rattle.updates.proofs.undo_in.Goals as goal
 
 pub returns : goal.returns
 returns c =
-    let u = c in
-    let s = u in
-    let a = s.args in
-    rw c.call_of.ensures (told-undo a.tuple.now a.list.now a.base a.front s.requires a.out.now _ u.undo_with.result a.work.now a.table.now u.undo_with.ensures)
+    let a = c.args in
+    rw c.call_of.ensures (told-undo a.tuple.now a.list.now a.base a.front c.requires a.out.now _ c.undo_with.result a.work.now a.table.now c.undo_with.ensures)

@@ -8,14 +8,12 @@ use Rattle.updates.proofs.update.Goals as goal
 
 pub answer_of-requires : goal.answer_of-requires
 answer_of-requires c =
-    let v = c in
     let a = c.args in
-    told-few v.updated.result (update a.tuple.now a.list.now a.index_base) a.out.now v.updated.new.out v.updated.ensures
+    told-few c.updated.result (update a.tuple.now a.list.now a.index_base) a.out.now c.updated.new.out c.updated.ensures
 
 pub returns : goal.returns
 unfolding update_call
 returns c =
-    let v = c in
     let a = c.args in
-    ap (λ (r : Answer). seen r v.updated.new.out) c.answer_of.ensures
-    ∙ answers a.tuple.now a.list.now v.updated.result (update a.tuple.now a.list.now a.index_base) a.out.now v.updated.new.out v.updated.ensures
+    ap (λ (r : Answer). seen r c.updated.new.out) c.answer_of.ensures
+    ∙ answers a.tuple.now a.list.now c.updated.result (update a.tuple.now a.list.now a.index_base) a.out.now c.updated.new.out c.updated.ensures

@@ -15,8 +15,6 @@ use Rattle.updates.proofs.update_in.Goals as goal
 -- src/lib.rt:69:1
 pub returns : goal.returns
 returns c =
-    let u = c in
-    let o = u in
-    let a = o.args in
-    subst (λ (x : Call). Tells x (update a.tuple.now a.list.now a.base) a.out.now u.update_with.new.out) (sym c.call_of.ensures)
-    (told-update a.tuple.now a.list.now a.base a.front o.requires a.out.now u.update_with.new.out u.update_with.result _ u.update_with.new.spare a.work.now a.table.now u.update_with.ensures)
+    let a = c.args in
+    subst (λ (x : Call). Tells x (update a.tuple.now a.list.now a.base) a.out.now c.update_with.new.out) (sym c.call_of.ensures)
+    (told-update a.tuple.now a.list.now a.base a.front c.requires a.out.now c.update_with.new.out c.update_with.result _ c.update_with.new.spare a.work.now a.table.now c.update_with.ensures)

@@ -15,10 +15,9 @@ returns-then-tuple-gt-MAX_TUPLE c =
 
 pub loop-refusal-init : goal.loop-refusal-init
 loop-refusal-init c =
-    let o = c in
-    let a = o.args in
-    let f = first_turn a.tuple.now a.list.now a.base a.front o.requires.0 _ c.write_bytes-length.ensures (omega arith) in
-    (f.0, (refl, (refl, (f.1.0, (f.1.1, (refl, (o.requires.1, o.requires.2)))))))
+    let a = c.args in
+    let f = first_turn a.tuple.now a.list.now a.base a.front c.requires.0 _ c.write_bytes-length.ensures (omega arith) in
+    (f.0, (refl, (refl, (f.1.0, (f.1.1, (refl, (c.requires.1, c.requires.2)))))))
 
 pub slice_bounds-one-end : goal.slice_bounds-one-end
 slice_bounds-one-end c = omega arith
@@ -31,25 +30,22 @@ slice_bounds-update_with-end-in-loop-refusal c = sym c.loop-refusal.invariant.1.
 
 pub returns-in-NoRoom : goal.returns-in-NoRoom
 returns-in-NoRoom c =
-    let u = c in
-    let g = u.loop-refusal in
-    let h = rw c.in-NoRoom.is at u.update_with.ensures in
+    let g = c.loop-refusal in
+    let h = rw c.in-NoRoom.is at c.update_with.ensures in
     no_room g.table g.work g.other h.2 g.invariant.1.1.1.1.1.1.0 g.invariant.1.1.1.1.1.1.1 g.invariant.1.1.1.1.1.0
 
 pub returns-in-Refused : goal.returns-in-Refused
 returns-in-Refused c =
-    let u = c in
-    let g = u.loop-refusal in
-    let a = u.args in
-    let h = rw c.in-Refused.is at u.update_with.ensures in
+    let g = c.loop-refusal in
+    let a = c.args in
+    let h = rw c.in-Refused.is at c.update_with.ensures in
     (h.0 ∙ told_as a.tuple.now a.list.now a.base g.invariant.0 g.invariant.1.0, h.2)
 
 pub returns-in-Written : goal.returns-in-Written
 returns-in-Written c =
-    let u = c in
-    let g = u.loop-refusal in
-    let a = u.args in
-    let h = rw c.in-Written.is at u.update_with.ensures in
+    let g = c.loop-refusal in
+    let a = c.args in
+    let h = rw c.in-Written.is at c.update_with.ensures in
     h.0 ∙ told_as a.tuple.now a.list.now a.base g.invariant.0 g.invariant.1.0
 
 pub slice_bounds-write_bytes-end-in-Moved : goal.slice_bounds-write_bytes-end-in-Moved
@@ -57,34 +53,26 @@ slice_bounds-write_bytes-end-in-Moved c = sym c.loop-refusal.invariant.1.1.1.1.0
 
 pub slice_bounds-other-end : goal.slice_bounds-other-end
 slice_bounds-other-end c =
-    let m = c in
-    let u = m in
-    let g = u.loop-refusal in
-    let R = rw m.in-Moved.is at u.update_with.ensures in
+    let g = c.loop-refusal in
+    let R = rw c.in-Moved.is at c.update_with.ensures in
     (rebased_room R.1).0
 
 pub slice_bounds-write_bytes-end-in-Moved-2 : goal.slice_bounds-write_bytes-end-in-Moved-2
 slice_bounds-write_bytes-end-in-Moved-2 c =
-    let m = c in
-    let u = m in
-    let g = u.loop-refusal in
-    let R = rw m.in-Moved.is at u.update_with.ensures in
+    let g = c.loop-refusal in
+    let R = rw c.in-Moved.is at c.update_with.ensures in
     sym (length-take-le _ _ (rebased_room R.1).0)
 
 pub loop-refusal-smaller : goal.loop-refusal-smaller
 loop-refusal-smaller c =
-    let m = c in
-    let u = m in
-    let g = u.loop-refusal in
-    let R = rw m.in-Moved.is at u.update_with.ensures in
+    let g = c.loop-refusal in
+    let R = rw c.in-Moved.is at c.update_with.ensures in
     let e = rebased_on R.1 g.invariant.1.1.1.1.1.1.1 in
     omega arith
 
 pub loop-refusal-preserved : goal.loop-refusal-preserved
 loop-refusal-preserved c =
-    let m = c in
-    let u = m in
-    let g = u.loop-refusal in
-    let R = rw m.in-Moved.is at u.update_with.ensures in
+    let g = c.loop-refusal in
+    let R = rw c.in-Moved.is at c.update_with.ensures in
     let e = rebased R.1 g.one c.write_bytes-length-in-Moved.ensures (omega arith) g.invariant.1.1.1.1.1.0 in
     (e.0 ∙ g.invariant.0, (R.0 ∙ g.invariant.1.0, (ap length R.0 ∙ g.invariant.1.1.0, (omega arith, (e.1.1 ∙ g.invariant.1.1.1.1.0, ((rebased_room R.1).1 ∙ g.invariant.1.1.1.1.1.0, (search rules, search rules)))))))

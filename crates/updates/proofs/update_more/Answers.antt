@@ -13,7 +13,6 @@ returns-in-Written c = rw c.in-Written.is at c.update_in.ensures
 
 pub returns-in-NoRoom : goal.returns-in-NoRoom
 returns-in-NoRoom c =
-    let v = c in
     let a = c.args in
-    let n = rw v.in-NoRoom.is at v.update_in.ensures in
-    subst (λ (x : Bytes). Told v.update_long.result (update a.tuple.now a.list.now a.base) x v.update_long.new.out) n v.update_long.ensures
+    let n = rw c.in-NoRoom.is at c.update_in.ensures in
+    subst (λ (x : Bytes). Told c.update_long.result (update a.tuple.now a.list.now a.base) x c.update_long.new.out) n c.update_long.ensures

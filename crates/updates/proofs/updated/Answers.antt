@@ -13,7 +13,6 @@ returns-in-Written c = rw c.in-Written.is at c.update_in.ensures
 
 pub returns-in-NoRoom : goal.returns-in-NoRoom
 returns-in-NoRoom c =
-    let v = c in
     let a = c.args in
-    let n = rw v.in-NoRoom.is at v.update_in.ensures in
-    subst (λ (x : Bytes). Told v.update_more-in-NoRoom.result (update a.tuple.now a.list.now a.base) x v.update_more-in-NoRoom.new.out) n v.update_more-in-NoRoom.ensures
+    let n = rw c.in-NoRoom.is at c.update_in.ensures in
+    subst (λ (x : Bytes). Told c.update_more-in-NoRoom.result (update a.tuple.now a.list.now a.base) x c.update_more-in-NoRoom.new.out) n c.update_more-in-NoRoom.ensures
