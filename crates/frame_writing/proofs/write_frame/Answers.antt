@@ -1,103 +1,86 @@
 -- Each refusal in its order, then the bytes.
-use Prim.Native.Nat.{ℕ, ◌+◌}
-use mathlib.Core.Path.{◌≡◌, sym, ap, ◌∙◌}
-use mathlib.Core.Bool.{Bool, true, ◌&&◌}
+use mathlib.Core.Path.{sym, ap, ◌∙◌}
+use mathlib.Core.Bool.{◌&&◌}
 use borrow.Author.Tests.{not-true, not-false}
 use lib.ListN.{take}
 use lib.Seq.{length-take-le}
-use Rattle.msgpack_first_bytes.specs.Bytes.{Bytes}
-use Rattle.frames.specs.declared.Frame.{Frame}
-use Rattle.frames.specs.Held.{suits as suitsRule, Item, all, is_some, encoded, locate}
-use Rattle.frame_items.specs.Content.{capped}
-use Rattle.frame_rules.specs.Needs.{needs_of}
-use Rattle.frame_rules.specs.declared.Needs.{Needs}
-use Rattle.frame_judging.specs.Judged.{judgement_of}
+use Rattle.frames.specs.Held.{suits as suitsRule, Item}
 use Rattle.frames.specs.Keys.{header_items, body_items}
 use Rattle.frames.specs.Writing.{sound as soundHeld}
 use Rattle.frame_rules.proofs.Laws.{code_unknown, code_known, keys-fit}
 use Rattle.frame_judging.specs.declared.Judgement.{Judgement}
 use Rattle.frame_judging.proofs.Lengths.{contents-counted}
 use Rattle.frame_writing.proofs.Calls.{Judged, both, call_8, call_4, call_9, call_10, call_3, sized, call_18, room, call_0}
+use Rattle.frame_writing.proofs.write_frame.Goals.{After-contents_length-size}
 use Rattle.frame_writing.proofs.write_frame.Goals as goal
 
 -- what the judgements say
-facts : (r : Frame) (s : Bytes) (h g : Judgement) {w : Needs} {t : Bool} {n : ℕ} → w ≡ needs_of r.code → w.known ≡ true
-    → h ≡ judgement_of (header_items r) → g ≡ judgement_of (body_items r s) → t ≡ all (λ (k : ℕ). is_some (encoded (locate (body_items r s) k))) (take w.count w.keys)
-    → n ≡ capped (capped (h.length + g.length) + 2)
-    → Judged r s (take w.count w.keys) (h.sound && g.sound) (h.suited && g.suited) t n
-facts r s h g w-is k h-is g-is t-is n-is =
+facts : (c : After-contents_length-size)
+    → (let r = c.args.frame in let s = c.args.bytes.now in let w = c.needs_of-needs.result in
+    let h = c.header_judged-header.result in let g = c.body_judged-body.result in
+    Judged r s (take w.count w.keys) (h.sound && g.sound) (h.suited && g.suited) c.holds_all-there.result c.contents_length-size.result)
+facts c =
+    let r = c.args.frame in
+    let s = c.args.bytes.now in
     let hs = header_items r in
     let bs = body_items r s in
+    let h = c.header_judged-header.ensures in
+    let g = c.body_judged-body.ensures in
     record {
-      known = code_known r.code w-is k;
-      four = both (λ (x : Item). soundHeld x.held) hs bs (ap (λ (j : Judgement). j.sound) h-is) (ap (λ (j : Judgement). j.sound) g-is);
-      nine = both (λ (x : Item). suitsRule x.rule x.held) hs bs (ap (λ (j : Judgement). j.suited) h-is) (ap (λ (j : Judgement). j.suited) g-is);
-      ten = t-is;
-      size = n-is ∙ contents-counted r s (ap (λ (j : Judgement). j.length) h-is) (ap (λ (j : Judgement). j.length) g-is);
+      known = code_known r.code c.needs_of-needs.ensures (not-false _ c.if-not-needs.false);
+      four = both (λ (x : Item). soundHeld x.held) hs bs (ap (λ (j : Judgement). j.sound) h) (ap (λ (j : Judgement). j.sound) g);
+      nine = both (λ (x : Item). suitsRule x.rule x.held) hs bs (ap (λ (j : Judgement). j.suited) h) (ap (λ (j : Judgement). j.suited) g);
+      ten = c.holds_all-there.ensures;
+      size = c.contents_length-size.ensures ∙ contents-counted r s (ap (λ (j : Judgement). j.length) h) (ap (λ (j : Judgement). j.length) g);
     }
 
 pub returns-then-not-sound : goal.returns-then-not-sound
 returns-then-not-sound c =
-    let a = c.args in
     rw c.refused-then-not-sound.ensures
     (call_4 _
-    (facts a.frame a.bytes.now c.header_judged-header.result c.body_judged-body.result c.needs_of-needs.ensures (not-false _ c.if-not-needs.false)
-    c.header_judged-header.ensures c.body_judged-body.ensures c.holds_all-there.ensures c.contents_length-size.ensures)
+    (facts (goal.at.returns-then-not-sound c).After-contents_length-size)
     c.if-not-sound.true)
 
 pub returns-then-not-suited : goal.returns-then-not-suited
 returns-then-not-suited c =
-    let a = c.args in
     rw c.refused-then-not-suited.ensures
     (call_9 _
-    (facts a.frame a.bytes.now c.header_judged-header.result c.body_judged-body.result c.needs_of-needs.ensures (not-false _ c.if-not-needs.false)
-    c.header_judged-header.ensures c.body_judged-body.ensures c.holds_all-there.ensures c.contents_length-size.ensures)
+    (facts (goal.at.returns-then-not-suited c).After-contents_length-size)
     c.if-not-sound.false c.if-not-suited.true)
 
 pub returns-then-not-there : goal.returns-then-not-there
 returns-then-not-there c =
-    let a = c.args in
     rw c.refused-then-not-there.ensures
     (call_10 _
-    (facts a.frame a.bytes.now c.header_judged-header.result c.body_judged-body.result c.needs_of-needs.ensures (not-false _ c.if-not-needs.false)
-    c.header_judged-header.ensures c.body_judged-body.ensures c.holds_all-there.ensures c.contents_length-size.ensures)
+    (facts (goal.at.returns-then-not-there c).After-contents_length-size)
     c.if-not-sound.false c.if-not-suited.false c.if-not-there.true)
 
 pub returns-then-size-gt-MAX_SIZE : goal.returns-then-size-gt-MAX_SIZE
 returns-then-size-gt-MAX_SIZE c =
-    let a = c.args in
     rw c.refused-then-size-gt-MAX_SIZE.ensures
     (call_3 _
-    (facts a.frame a.bytes.now c.header_judged-header.result c.body_judged-body.result c.needs_of-needs.ensures (not-false _ c.if-not-needs.false)
-    c.header_judged-header.ensures c.body_judged-body.ensures c.holds_all-there.ensures c.contents_length-size.ensures)
+    (facts (goal.at.returns-then-size-gt-MAX_SIZE c).After-contents_length-size)
     c.if-not-sound.false c.if-not-suited.false c.if-not-there.false c.if-size-gt-MAX_SIZE.true)
 
 pub returns-then-out-size : goal.returns-then-out-size
 returns-then-out-size c =
-    let a = c.args in
     rw c.refused-then-out-size.ensures
     (call_18 _
-    (facts a.frame a.bytes.now c.header_judged-header.result c.body_judged-body.result c.needs_of-needs.ensures (not-false _ c.if-not-needs.false)
-    c.header_judged-header.ensures c.body_judged-body.ensures c.holds_all-there.ensures c.contents_length-size.ensures)
+    (facts (goal.at.returns-then-out-size c).After-contents_length-size)
     c.if-not-sound.false c.if-not-suited.false c.if-not-there.false c.if-size-gt-MAX_SIZE.false c.if-out-size.true)
 
 pub put_frame-length-requires : goal.put_frame-length-requires
 put_frame-length-requires c =
     let a = c.args in
     let out = a.out.now in
-    let f =
-    (facts a.frame a.bytes.now c.header_judged-header.result c.body_judged-body.result c.needs_of-needs.ensures (not-false _ c.if-not-needs.false)
-    c.header_judged-header.ensures c.body_judged-body.ensures c.holds_all-there.ensures c.contents_length-size.ensures)
-    in
+    let f = facts (goal.at.put_frame-length-requires c).After-contents_length-size in
     let h = c.if-size-gt-MAX_SIZE.false in
     ((sized out f h, (ap (λ (j : Judgement). j.count) c.header_judged-header.ensures, ap (λ (j : Judgement). j.count) c.body_judged-body.ensures)), room out f h c.if-out-size.false)
 
 pub returns : goal.returns
 returns c =
-    let a = c.args in
     call_0 _
-    (facts a.frame a.bytes.now c.header_judged-header.result c.body_judged-body.result c.needs_of-needs.ensures (not-false _ c.if-not-needs.false)
-    c.header_judged-header.ensures c.body_judged-body.ensures c.holds_all-there.ensures c.contents_length-size.ensures)
+    (facts (goal.at.returns c).After-contents_length-size)
     c.if-not-sound.false c.if-not-suited.false c.if-not-there.false c.if-size-gt-MAX_SIZE.false c.if-out-size.false c.put_frame-length.ensures
 
 pub returns-then-not-needs : goal.returns-then-not-needs
