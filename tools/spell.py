@@ -32,18 +32,8 @@ def own(path):
     return path.endswith(".antt") and path.split("/")[2] in ("specs", "proofs") and len(path.split("/")) == 4
 
 
-def statement(lines, i):
-    """The declaration's type, with the lines that go on with it."""
-    text = lines[i]
-    for l in lines[i + 1 :]:
-        if not l.startswith("    ") or l.lstrip().startswith("--"):
-            break
-        text += l
-    return text
-
-
 def names():
-    found, facts, types = {}, set(), set()
+    found, types = {}, set()
     for p in files():
         if not own(p):
             continue
@@ -96,8 +86,6 @@ def main():
                 if n != keep[0]:
                     new[n] = s + "_lem"
                     print(f"falls together: {ns}: {n} is now {new[n]}")
-            if len(keep) > 1:
-                print(f"LOOK: {keep}")
     new = {n: s for n, s in new.items() if n != s}
     print(f"{len(new)} names of {len(found)}")
     if DRY:
@@ -107,7 +95,6 @@ def main():
     for p in files():
         text = open(p, encoding="utf-8").read()
         out = []
-        clause = 0
         for l in text.splitlines(keepends=True):
             if p.endswith(".rt"):
                 # strings and the code itself keep their words
