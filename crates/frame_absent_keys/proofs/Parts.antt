@@ -1,4 +1,5 @@
 -- Reading in two parts is reading. Assumes nothing.
+use Rattle.std.specs.Prelude.{Ok, Err}
 use Prim.Native.Nat.{ℕ, ◌+◌}
 use mathlib.Core.Path.{◌≡◌, refl}
 use mathlib.Core.Bool.{Bool, true, false, ◌||◌}
@@ -7,15 +8,12 @@ use mathlib.Core.Option.{Option, none, some}
 use lib.Dec.{eqb}
 use lib.ListN.{take}
 use Rattle.msgpack_first_bytes.specs.Bytes.{Bytes, pick}
-use Rattle.msgpack_values.specs.declared.Read.{Read}
-use Rattle.msgpack_values.specs.declared.Read.TheVariants.{Whole, Broken}
+use Rattle.msgpack_values.specs.Value.{Read}
 use Rattle.frames.specs.declared.FrameAnswer.{FrameAnswer}
-use Rattle.frames.specs.declared.Size.{Size}
-use Rattle.frames.specs.declared.Size.TheVariants.{Promises, Refused}
+use Rattle.frames.specs.Reading.{Size, refuse, by_places, by_entries, broken, in_frame, size_of, by_size, frame_read}
 use Rattle.frames.specs.Codes.{required}
 use Rattle.frames.specs.Cascade.{check, given, whole}
 use Rattle.frames.specs.Maps.{Entry, keys, has, placed, find}
-use Rattle.frames.specs.Reading.{refuse, by_places, by_entries, broken, in_frame, size_of, by_size, frame_read}
 use Rattle.frame_absent_keys.specs.Apart.{Apart, stops, breaks, maps, contents_apart, apart_by, apart, read_by}
 
 pub find-has : (es : List Entry) (k : ℕ) → (find es k).present ≡ has k (keys es)
@@ -54,8 +52,8 @@ given-alike (some a) p q = q a
 whole-alike : {x : Apart} {y : ℕ → Apart} {u : FrameAnswer} {v : ℕ → FrameAnswer} (r : Read)
     → Reads x u → ((n : ℕ) → Reads (y n) (v n)) → Reads (whole x r y) (whole u r v)
 unfolding whole
-whole-alike (Whole n) p q = q n
-whole-alike (Broken n) p q = p
+whole-alike (Ok n) p q = q n
+whole-alike (Err n) p q = p
 
 in_frame_lem : (s : Bytes) (at : ℕ) → Reads (contents_apart s at) (in_frame s at)
 unfolding contents_apart in_frame by_entries
@@ -72,5 +70,5 @@ unfolding apart apart_by frame_read by_size
 reads s = (go (size_of s)).is
   where
     go : (z : Size) → Reads (apart_by s z) (by_size s z)
-    go (Refused n k) = stopped n
-    go (Promises n k) = check-alike _ (stopped 1) (in_frame_lem (take (k + n) s) k)
+    go (Err (n, k)) = stopped n
+    go (Ok (n, k)) = check-alike _ (stopped 1) (in_frame_lem (take (k + n) s) k)

@@ -1,18 +1,16 @@
 -- Reading in two parts: 1 to 7, which take the frame apart, and 8 to 10 by any lists of required keys.
 -- With the lists of `Codes` the two are `frame_read`: a part of the claim in `Before`.
-use Rattle.std.specs.Prelude.{ℕ, ◌+◌, ◌&&◌, List, [], leb, eqb, length, take, drop}
+use Rattle.std.specs.Prelude.{ℕ, ◌+◌, ◌&&◌, List, [], leb, eqb, length, take, drop, Ok, Err}
 use Rattle.std.proofs.Math.Option.{Option}
 use Rattle.msgpack_first_bytes.specs.Bytes.{Bytes}
 use Rattle.msgpack_values.specs.Value.{value}
 use Rattle.msgpack_values.specs.Spoiled.{no_place}
 use Rattle.msgpack_values.specs.declared.OptionalNumber.{OptionalNumber}
 use Rattle.frames.specs.declared.FrameAnswer.{FrameAnswer}
-use Rattle.frames.specs.declared.Size.{Size}
-use Rattle.frames.specs.declared.Size.TheVariants.{Promises, Refused}
+use Rattle.frames.specs.Reading.{Size, refuse_at, by_places, body_value, body_entries, broken, size_of}
 use Rattle.frames.specs.Limits.{max_depth, held_depth}
 use Rattle.frames.specs.Cascade.{check, given, whole}
 use Rattle.frames.specs.Maps.{Entry, entries_at, keys, distinct, find}
-use Rattle.frames.specs.Reading.{refuse_at, by_places, body_value, body_entries, broken, size_of}
 
 -- the number of a refusal and its place, or the frame's bytes with the entries of its header and its body
 pub data Apart : Type 0 where
@@ -38,8 +36,8 @@ contents_apart s at =
     (maps s hs bs))))))
 
 unfoldable pub apart_by : Bytes → Size → Apart
-apart_by s (Refused n k) = stops n
-apart_by s (Promises n k) = check (stops 1) (leb (k + n) (length s)) (contents_apart (take (k + n) s) k)
+apart_by s (Err (n, k)) = stops n
+apart_by s (Ok (n, k)) = check (stops 1) (leb (k + n) (length s)) (contents_apart (take (k + n) s) k)
 
 -- the frame at the front of s
 unfoldable pub apart : Bytes → Apart

@@ -1,4 +1,5 @@
 -- The lines in the parts that are written. Assumes nothing.
+use Rattle.std.specs.Prelude.{Ok, Err}
 use mathlib.Core.Path.{◌≡◌, sym, ◌∙◌}
 use mathlib.Core.List.{◌++◌, append_assoc}
 use Prim.Native.Nat.{ℕ, ◌+◌, ◌-◌, ◌<◌}
@@ -6,7 +7,6 @@ use native.Mathlib.Omega.{arith}
 use lib.ListN.{length, take}
 use lib.Seq.{take_all, take-length}
 use Rattle.msgpack_first_bytes.specs.Bytes.{Bytes}
-use Rattle.frames.specs.declared.Size.TheVariants.{Promises, Refused}
 use Rattle.frames.specs.Reading.{size_of}
 use Rattle.frame_fault.specs.Fault.{own_by, own}
 
@@ -17,11 +17,11 @@ twice x d y e z = simp append_assoc
 -- ---- the frame's own bytes
 
 module _ (s : Bytes) (n k : ℕ) where
-  pub own-refused : Refused n k ≡ size_of s → take (length s) s ≡ own s
+  pub own-refused : Err (n, k) ≡ size_of s → take (length s) s ≡ own s
   unfolding own_by
   own-refused e = rw (← e) (take-length s)
 
-  module _ (e : Promises n k ≡ size_of s) where
+  module _ (e : Ok (n, k) ≡ size_of s) where
     pub own-cut : length s - k < n → take (length s) s ≡ own s
     unfolding own_by
     own-cut h = rw (← e) (take-length s ∙ sym (take_all (k + n) s (omega arith)))

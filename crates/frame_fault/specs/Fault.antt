@@ -1,11 +1,9 @@
 -- The report. Document 02, 3/12: "The night technician gets "4" and sixty thousand bytes."
-use Rattle.std.specs.Prelude.{ℕ, zero, suc, ◌+◌, ◌-◌, [], ◌∷◌, ◌++◌, leb, eqb, length, take}
+use Rattle.std.specs.Prelude.{ℕ, zero, suc, ◌+◌, ◌-◌, [], ◌∷◌, ◌++◌, leb, eqb, length, take, Ok, Err}
 use Rattle.msgpack_first_bytes.specs.Bytes.{Bytes, pick}
 use Rattle.msgpack_values.specs.declared.OptionalNumber.{OptionalNumber}
 use Rattle.frames.specs.declared.FrameAnswer.{FrameAnswer}
-use Rattle.frames.specs.declared.Size.{Size}
-use Rattle.frames.specs.declared.Size.TheVariants.{Promises, Refused}
-use Rattle.frames.specs.Reading.{size_of, frame_read}
+use Rattle.frames.specs.Reading.{Size, size_of, frame_read}
 use Rattle.frame_listing.specs.Listing.{max_input}
 use Rattle.frame_listing_fields.specs.Text.{text, decimal}
 use Rattle.frame_fault_fields.specs.Words.{words_of}
@@ -28,8 +26,8 @@ place_line at p =
 
 -- the frame's own bytes, at the front of s: those that its size number promises, as far as they are there; else all
 unfoldable pub own_by : Bytes → Size → Bytes
-own_by s (Promises n k) = take (k + n) s
-own_by s (Refused n k) = s
+own_by s (Ok (n, k)) = take (k + n) s
+own_by s (Err (n, k)) = s
 
 abbrev pub own : Bytes → Bytes
 own s = own_by s (size_of s)

@@ -11,7 +11,6 @@ ghost use Rattle.frame_fault.specs.Fault.{frame_line, refused_line, place_line, 
 
 use frame_fault_fields::{write_dump, write_words};
 use frame_listing_fields::write_number;
-use frames::Size;
 use msgpack_values::OptionalNumber;
 use msgpack_writing::write_bytes;
 
@@ -68,8 +67,8 @@ fn own_length(left: &[u8]) -> usize
     ensures { (result ≤ length left.now) × (take result left.now ≡ own left.now) }
 {
     match frame_reading::read_size(left) {
-        Size::Refused(_, _) => left.len(),
-        Size::Promises(size, from) => {
+        Err(_) => left.len(),
+        Ok((size, from)) => {
             if left.len() - from < size {
                 return left.len();
             }

@@ -8,7 +8,7 @@ ghost use Rattle.frames.specs.Keys.{optional, frame_at};
 ghost use Rattle.frame_tables.specs.Tables.{place_in};
 
 use frames::{Frame, Place};
-use msgpack_scalars::Natural;
+use msgpack_scalars::NoNumber;
 use msgpack_values::OptionalNumber;
 
 // The bytes of a place, as far as there are any.
@@ -30,15 +30,15 @@ fn number_of(v: &[u8]) -> OptionalNumber
     ensures { result ≡ optional (as_number (unsigned v.now)) }
 {
     match msgpack_scalars::unsigned_at(v, 0) {
-        Natural::Is(n, _) => OptionalNumber {
+        Ok((n, _)) => OptionalNumber {
             present: true,
             value: n,
         },
-        Natural::Cut => OptionalNumber {
+        Err(NoNumber::Cut) => OptionalNumber {
             present: false,
             value: 0,
         },
-        Natural::Other => OptionalNumber {
+        Err(NoNumber::Other) => OptionalNumber {
             present: false,
             value: 0,
         },

@@ -7,7 +7,6 @@ ghost use Rattle.frames.specs.Writing.{sound};
 ghost use Rattle.frame_items.specs.Content.{held_of, is_written, pair_length, capped};
 
 use frames::{Place, Rule};
-use msgpack_values::Read;
 
 // What a known key holds: nothing, a place outside its bytes, a number, or the value at a place.
 #[derive(Clone, Copy)]
@@ -30,8 +29,8 @@ fn view_sound(v: &[u8]) -> bool
     ensures { result ≡ sound (encoding v.now) }
 {
     match msgpack_values::read_value(v, 0, frames::HELD_DEPTH) {
-        Read::Whole(end) => end == v.len(),
-        Read::Broken(_) => false,
+        Ok(end) => end == v.len(),
+        Err(_) => false,
     }
 }
 

@@ -1,4 +1,5 @@
 -- A frame that was read has two bytes at least, and no more than there are. Assumes nothing.
+use Rattle.std.specs.Prelude.{Ok, Err}
 use mathlib.Core.Path.{◌≡◌, refl}
 use mathlib.Core.Bool.{Bool, true, false}
 use Prim.Native.Nat.{ℕ, ◌+◌, ◌≤◌}
@@ -9,10 +10,8 @@ use lib.ListN.{length, take}
 use lib.Seq.{length-take-le}
 use Rattle.msgpack_first_bytes.specs.Bytes.{Bytes}
 use Rattle.frames.specs.Cascade.{check}
-use Rattle.frames.specs.Reading.{refuse, in_frame, by_size, size_of, frame_read}
+use Rattle.frames.specs.Reading.{refuse, in_frame, by_size, size_of, frame_read, Size}
 use Rattle.frames.specs.declared.FrameAnswer.{FrameAnswer}
-use Rattle.frames.specs.declared.Size.{Size}
-use Rattle.frames.specs.declared.Size.TheVariants.{Promises, Refused}
 use Rattle.frames.proofs.Sizes.{Told, size_told}
 use Rattle.frames.proofs.Judged.{Judged, judged}
 
@@ -36,7 +35,7 @@ pub frame-within : (s : Bytes) → Within 2 (length s) (frame_read s)
 unfolding frame_read by_size check
 frame-within s = go (size_of s) (size_told s)
   where
-    by_end : (n k : ℕ) → Told s (Promises n k) → (b : Bool) → leb (k + n) (length s) ≡ b → Within 2 (length s) (check (refuse 1) b (in_frame (take (k + n) s) k))
+    by_end : (n k : ℕ) → Told s (Ok (n, k)) → (b : Bool) → leb (k + n) (length s) ≡ b → Within 2 (length s) (check (refuse 1) b (in_frame (take (k + n) s) k))
     by_end n k t true e =
         let i = t.0.0 in
         let j = t.1.some in
@@ -46,5 +45,5 @@ frame-within s = go (size_of s) (size_told s)
     by_end n k t false e = refusal 1 (λ e. omega arith)
 
     go : (z : Size) → Told s z → Within 2 (length s) (by_size s z)
-    go (Refused n k) t = refusal n (λ e. let m = (t.1 (λ q. omega arith)).0 in omega arith)
-    go (Promises n k) t = by_end n k t (leb (k + n) (length s)) refl
+    go (Err (n, k)) t = refusal n (λ e. let m = (t.1 (λ q. omega arith)).0 in omega arith)
+    go (Ok (n, k)) t = by_end n k t (leb (k + n) (length s)) refl

@@ -1,4 +1,5 @@
 -- 1 to 5: the size number, the header and the body. Assumes nothing.
+use Rattle.std.specs.Prelude.{Some, None, Ok, Err}
 use mathlib.Core.Path.{◌≡◌, refl, sym, subst, ◌∙◌}
 use mathlib.Core.Bool.{Bool, true, false}
 use Prim.Native.Nat.{ℕ, ◌+◌, ◌-◌, ◌<◌, ◌≤◌}
@@ -8,37 +9,32 @@ use lib.Dec.{ltb, eqb}
 use lib.ListN.{length, take, drop, length-drop, drop_of_length-le}
 use lib.Seq.{drop-cons}
 use Rattle.msgpack_first_bytes.specs.Bytes.{Bytes, pick}
-use Rattle.msgpack_values.specs.Value.{shift, value}
-use Rattle.msgpack_values.specs.declared.Read.{Read}
-use Rattle.msgpack_values.specs.declared.Read.TheVariants.{Whole, Broken}
+use Rattle.msgpack_values.specs.Value.{shift, value, Read}
 use Rattle.msgpack_values.proofs.Local.{shift-whole, value_good, value_pos}
 use Rattle.msgpack_first_bytes.proofs.Logic.{impossible}
-use Rattle.msgpack_scalars.specs.declared.Natural.TheVariants.{Is}
 use Rattle.frames.specs.declared.FrameAnswer.{FrameAnswer}
-use Rattle.frames.specs.declared.Size.TheVariants.{Promises, Refused}
 use Rattle.frames.specs.Limits.{max_size, max_depth, held_depth}
 use Rattle.frames.specs.Maps.{entries_at}
 use Rattle.frames.specs.Cascade.{check, whole}
 use Rattle.frames.proofs.Sizes.{Told, size_told}
 use Rattle.frames.specs.Reading.{refuse, broken, by_entries, body_value, body_entries, in_frame, size_by, size_of, by_size, frame_read}
 use Rattle.frame_reading.specs.Steps.{body_at, entries_in}
-use Rattle.frame_reading.specs.declared.Body.TheVariants.{At, Missing}
 
 -- ---- the body's place
 
-pub body_there : (s : Bytes) (at from : ℕ) → At from ≡ body_at s at → (at < length s) × (from ≡ at)
+pub body_there : (s : Bytes) (at from : ℕ) → Some from ≡ body_at s at → (at < length s) × (from ≡ at)
 unfolding body_at
 body_there s at from e = go (ltb at (length s)) refl e
   where
-    go : (b : Bool) → ltb at (length s) ≡ b → At from ≡ pick b (At at) Missing → (at < length s) × (from ≡ at)
+    go : (b : Bool) → ltb at (length s) ≡ b → Some from ≡ pick b (Some at) None → (at < length s) × (from ≡ at)
     go true q e = (ltb-true at (length s) q, cc)
     go false q e = impossible cc
 
-pub body_missing : (s : Bytes) (at : ℕ) → Missing ≡ body_at s at → length s ≤ at
+pub body_missing : (s : Bytes) (at : ℕ) → None ≡ body_at s at → length s ≤ at
 unfolding body_at
 body_missing s at e = go (ltb at (length s)) refl e
   where
-    go : (b : Bool) → ltb at (length s) ≡ b → Missing ≡ pick b (At at) Missing → length s ≤ at
+    go : (b : Bool) → ltb at (length s) ≡ b → None ≡ pick b (Some at) None → length s ≤ at
     go true q e = impossible cc
     go false q e = ltb-false at (length s) q
 
@@ -50,30 +46,30 @@ moved r s from at e h = rw e at h
 -- a whole value from `at` to `end`
 record Span (s : Bytes) (at end : ℕ) : Type 0 where
   size : ℕ
-  is : value max_depth (drop at s) ≡ Whole size
+  is : value max_depth (drop at s) ≡ Ok size
   to : end ≡ at + size
   inside : end ≤ length s
 
-span : (s : Bytes) (at end : ℕ) → Whole end ≡ shift at (value max_depth (drop at s)) → Span s at end
+span : (s : Bytes) (at end : ℕ) → Ok end ≡ shift at (value max_depth (drop at s)) → Span s at end
 span s at end h =
     let (n, q, e) = shift-whole at end (value max_depth (drop at s)) (sym h) in
     let l = simp length-drop at (value_good max_depth (drop at s) n q).0 in
     let p = value_pos max_depth (drop at s) n q in
     record { size = n; is = q; to = e; inside = omega arith }
 
-unshifted : (s : Bytes) (at p : ℕ) → Broken p ≡ shift at (value max_depth (drop at s)) → (q : ℕ) × (value max_depth (drop at s) ≡ Broken q)
+unshifted : (s : Bytes) (at p : ℕ) → Err p ≡ shift at (value max_depth (drop at s)) → (q : ℕ) × (value max_depth (drop at s) ≡ Err q)
 unshifted s at p h = go (value max_depth (drop at s)) refl h
   where
-    go : (r : Read) → value max_depth (drop at s) ≡ r → Broken p ≡ shift at r → (q : ℕ) × (value max_depth (drop at s) ≡ Broken q)
-    go (Whole n) e h = impossible cc
-    go (Broken q) e h = (q, e)
+    go : (r : Read) → value max_depth (drop at s) ≡ r → Err p ≡ shift at r → (q : ℕ) × (value max_depth (drop at s) ≡ Err q)
+    go (Ok n) e h = impossible cc
+    go (Err q) e h = (q, e)
 
 module _ (s : Bytes) (at : ℕ) where
-  pub no_header : (p : ℕ) → Broken p ≡ shift at (value max_depth (drop at s)) → broken s at ≡ in_frame s at
+  pub no_header : (p : ℕ) → Err p ≡ shift at (value max_depth (drop at s)) → broken s at ≡ in_frame s at
   unfolding in_frame whole
   no_header p h = rw (unshifted s at p h).1
 
-  module _ (end : ℕ) (h : Whole end ≡ shift at (value max_depth (drop at s))) where
+  module _ (end : ℕ) (h : Ok end ≡ shift at (value max_depth (drop at s))) where
     -- what comes after the header
     after : FrameAnswer
     after =
@@ -84,7 +80,7 @@ module _ (s : Bytes) (at : ℕ) where
     unfolding in_frame whole after
     header-whole = let x = span s at end h in rw (x.is, ← x.to)
 
-    pub no_body : length s ≤ end → by_entries s (entries_at held_depth s at) (entries_in s Missing) ≡ in_frame s at
+    pub no_body : length s ≤ end → by_entries s (entries_at held_depth s at) (entries_in s None) ≡ in_frame s at
     unfolding after whole check body_value body_entries entries_in
     no_body l =
         let x = span s at end h in
@@ -97,21 +93,21 @@ module _ (s : Bytes) (at : ℕ) where
       unfolding body_value body_entries
       body_is = rw (drop-cons s end 0 l) (refl, refl)
 
-      pub bad_body : (p : ℕ) → Broken p ≡ shift end (value max_depth (drop end s)) → broken s end ≡ in_frame s at
+      pub bad_body : (p : ℕ) → Err p ≡ shift end (value max_depth (drop end s)) → broken s end ≡ in_frame s at
       unfolding after whole
       bad_body p q = sym (header-whole ∙ rw (body_is.0, (unshifted s end p q).1))
 
-      body-whole : (last : ℕ) → (q : Whole last ≡ shift end (value max_depth (drop end s)))
+      body-whole : (last : ℕ) → (q : Ok last ≡ shift end (value max_depth (drop end s)))
           → in_frame s at ≡ check (refuse 5) (eqb last (length s)) (by_entries s (entries_at held_depth s at) (entries_at held_depth s end))
       unfolding after whole
       body-whole last q = let x = span s end last q in header-whole ∙ rw (body_is.0, x.is, ← x.to, body_is.1)
 
-      pub bytes_remain : (last : ℕ) → Whole last ≡ shift end (value max_depth (drop end s)) → last < length s → refuse 5 ≡ in_frame s at
+      pub bytes_remain : (last : ℕ) → Ok last ≡ shift end (value max_depth (drop end s)) → last < length s → refuse 5 ≡ in_frame s at
       unfolding check
       bytes_remain last q k = sym (body-whole last q ∙ rw (ne_eqb last (length s) (λ e. omega arith)))
 
-      pub all_read : (last : ℕ) → Whole last ≡ shift end (value max_depth (drop end s)) → length s ≤ last
-          → by_entries s (entries_at held_depth s at) (entries_in s (At end)) ≡ in_frame s at
+      pub all_read : (last : ℕ) → Ok last ≡ shift end (value max_depth (drop end s)) → length s ≤ last
+          → by_entries s (entries_at held_depth s at) (entries_in s (Some end)) ≡ in_frame s at
       unfolding check entries_in
       all_read last q k =
           let i = (span s end last q).inside in
@@ -119,29 +115,29 @@ module _ (s : Bytes) (at : ℕ) where
 
 -- ---- the size number
 
-pub size_none : {n : ℕ} (k : ℕ) → n ≡ 0 → Refused 3 k ≡ size_by (Is n k)
+pub size_none : {n : ℕ} (k : ℕ) → n ≡ 0 → Err (3, k) ≡ size_by (Ok (n, k))
 unfolding size_by
 size_none k h = rw h
 
 module _ (n k : ℕ) where
-  pub size_large : max_size < n → Refused 3 k ≡ size_by (Is n k)
+  pub size_large : max_size < n → Err (3, k) ≡ size_by (Ok (n, k))
   unfolding size_by
   size_large h = rw (le-leb 1 n (omega arith), lt-leb n max_size h)
 
-  pub size_is : (n ≡ 0 → ⊥) → n ≤ max_size → Promises n k ≡ size_by (Is n k)
+  pub size_is : (n ≡ 0 → ⊥) → n ≤ max_size → Ok (n, k) ≡ size_by (Ok (n, k))
   unfolding size_by
   size_is z h = rw (le-leb 1 n (omega arith), le-leb n max_size h)
 
 -- ---- the frame
 
 module _ (s : Bytes) where
-  pub frame_refused : (n k : ℕ) → Refused n k ≡ size_of s → refuse n ≡ frame_read s
+  pub frame_refused : (n k : ℕ) → Err (n, k) ≡ size_of s → refuse n ≡ frame_read s
   unfolding frame_read by_size
   frame_refused n k e = rw (← e)
 
-  module _ (n k : ℕ) (e : Promises n k ≡ size_of s) where
+  module _ (n k : ℕ) (e : Ok (n, k) ≡ size_of s) where
     pub size_fits : k ≤ length s
-    size_fits = let t : Told s (Promises n k) = subst (Told s) (sym e) (size_told s) in t.1.inside
+    size_fits = let t : Told s (Ok (n, k)) = subst (Told s) (sym e) (size_told s) in t.1.inside
 
     pub not_all_come : length s - k < n → refuse 1 ≡ frame_read s
     unfolding frame_read by_size check

@@ -1,4 +1,5 @@
 -- 6 to 10: what the tables and look-ups say of the cascade. Assumes nothing.
+use Rattle.std.specs.Prelude.{Some, None, Option}
 use mathlib.Core.Path.{◌≡◌, refl, sym, ap, ap₂, ◌∙◌}
 use mathlib.Core.List.{List}
 use mathlib.Core.Bool.{Bool, true, false, ◌&&◌, ◌||◌}
@@ -24,8 +25,6 @@ use Rattle.frame_tables.specs.Tables.{Table, table, empty_table, laid_all, table
 use Rattle.frame_tables.proofs.Entries.{AllFit, nil, all_fit}
 use Rattle.frame_tables.proofs.Found.{places-found, number-found, tabled-room}
 use Rattle.frame_reading.specs.Steps.{entries_in}
-use Rattle.frame_reading.specs.declared.Body.{Body}
-use Rattle.frame_reading.specs.declared.Body.TheVariants.{At, Missing}
 
 differ : {A : Type 0} → true ≡ false → A
 differ e = impossible cc
@@ -114,10 +113,10 @@ holds s at = go (entries_at held_depth s at) refl
     go none e = tt
     go (some es) e = all_fit held_depth s at es e
 
-body_holds : (s : Bytes) (b : Body) → Holds s (entries_in s b)
+body_holds : (s : Bytes) (b : (Option ℕ)) → Holds s (entries_in s b)
 unfolding entries_in
-body_holds s Missing = nil
-body_holds s (At at) = holds s at
+body_holds s None = nil
+body_holds s (Some at) = holds s at
 
 -- laid into a table of zeros
 abbrev pub fresh : Option (List Entry) → Table
@@ -129,7 +128,7 @@ long o p =
     let r = tabled-room o in
     (sym (ap (λ (t : Table). length t.starts) p ∙ r.starts), sym (ap (λ (t : Table). length t.lengths) p ∙ r.lengths))
 
-pub told : (s : Bytes) (at : ℕ) (body : Body) {m n : ℕ} {f g k l : List ℕ} → table m f g ≡ fresh (entries_at held_depth s at) → table n k l ≡ fresh (entries_in s body)
+pub told : (s : Bytes) (at : ℕ) (body : (Option ℕ)) {m n : ℕ} {f g k l : List ℕ} → table m f g ≡ fresh (entries_at held_depth s at) → table n k l ≡ fresh (entries_in s body)
     → judged s (table m f g) (table n k l) ≡ by_entries s (entries_at held_depth s at) (entries_in s body)
 unfolding empty_table
 told s at body p q = ap₂ (judged s) p q ∙ judged-entries s _ _ (holds s at) (body_holds s body)

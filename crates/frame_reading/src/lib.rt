@@ -11,32 +11,25 @@ ghost use Rattle.frame_tables.specs.Tables.{table, tabled_on, place_in};
 ghost use Rattle.frame_reading.specs.Steps.{body_at, entries_in};
 
 use frames::{Frame, FrameAnswer, Place, Size};
-use msgpack_scalars::Natural;
-use msgpack_values::{OptionalNumber, Read};
-
-// Whether a body follows the header, and where.
-#[derive(Clone, Copy)]
-enum Body {
-    At(usize),
-    Missing,
-}
+use msgpack_scalars::NoNumber;
+use msgpack_values::OptionalNumber;
 
 // The size number at the front of `s`: 2, 1 and 3.
 pub fn read_size(s: &[u8]) -> Size
     ensures { result ≡ size_of s.now }
 {
     match msgpack_scalars::unsigned_at(s, 0) {
-        Natural::Is(n, from) => {
+        Ok((n, from)) => {
             if n == 0 {
-                return Size::Refused(3, from);
+                return Err((3, from));
             }
             if (frames::MAX_SIZE as u64) < n {
-                return Size::Refused(3, from);
+                return Err((3, from));
             }
-            Size::Promises(n as usize, from)
+            Ok((n as usize, from))
         }
-        Natural::Cut => Size::Refused(1, 0),
-        Natural::Other => Size::Refused(2, 1),
+        Err(NoNumber::Cut) => Err((1, 0)),
+        Err(NoNumber::Other) => Err((2, 1)),
     }
 }
 
@@ -134,29 +127,29 @@ fn by_places(
     }
 }
 
-fn body_at(s: &[u8], at: usize) -> Body
+fn body_at(s: &[u8], at: usize) -> Option<usize>
     ensures { result ≡ body_at s.now at }
 {
     if at < s.len() {
-        Body::At(at)
+        Some(at)
     } else {
-        Body::Missing
+        None
     }
 }
 
 // `table_at` of the body; a missing one lays nothing.
-fn body_table(s: &[u8], body: Body, starts: &mut [usize; 128], lengths: &mut [usize; 128]) -> u32
+fn body_table(s: &[u8], body: Option<usize>, starts: &mut [usize; 128], lengths: &mut [usize; 128]) -> u32
     ensures { table result starts.new lengths.new
         ≡ tabled_on (table 0 starts.old lengths.old) (entries_in s.now body) }
 {
-    let Body::At(from) = body else {
+    let Some(from) = body else {
         return 0;
     };
     frame_tables::table_at(s, from, starts, lengths)
 }
 
 // 6 to 10: 6 and 7 over the header and then the body. The tables are made here alone, and lent.
-fn judge(s: &[u8], at: usize, body: Body) -> FrameAnswer
+fn judge(s: &[u8], at: usize, body: Option<usize>) -> FrameAnswer
     ensures { result ≡ by_entries s.now (entries_at held_depth s.now at) (entries_in s.now body) }
 {
     let mut header_starts = [0usize; 128];
@@ -179,20 +172,20 @@ pub fn read_contents(s: &[u8], at: usize) -> FrameAnswer
     ensures { result ≡ in_frame s.now at }
 {
     let header = msgpack_values::read_value(s, at, frames::MAX_DEPTH);
-    let Read::Whole(end) = header else {
+    let Ok(end) = header else {
         return refused_at(4, msgpack_values::place_of(header));
     };
-    let Body::At(from) = body_at(s, end) else {
-        return judge(s, at, Body::Missing);
+    let Some(from) = body_at(s, end) else {
+        return judge(s, at, None);
     };
     let body = msgpack_values::read_value(s, from, frames::MAX_DEPTH);
-    let Read::Whole(last) = body else {
+    let Ok(last) = body else {
         return refused_at(4, msgpack_values::place_of(body));
     };
     if last < s.len() {
         return refused(5);
     }
-    judge(s, at, Body::At(from))
+    judge(s, at, Some(from))
 }
 
 // The first frame of `s`; what follows it is not judged.
@@ -200,8 +193,8 @@ pub fn read_frame(s: &[u8]) -> FrameAnswer
     ensures { result ≡ frame_read s.now }
 {
     match read_size(s) {
-        Size::Refused(number, _) => refused(number),
-        Size::Promises(size, from) => {
+        Err((number, _)) => refused(number),
+        Ok((size, from)) => {
             if s.len() - from < size {
                 return refused(1);
             }

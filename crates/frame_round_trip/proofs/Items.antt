@@ -1,4 +1,5 @@
 -- Items with distinct keys, the pairs that are written of them, and what is read of those. Assumes nothing.
+use Rattle.std.specs.Prelude.{Ok, Err}
 use Prim.Native.Nat.{ℕ, ◌+◌, ◌^◌, ◌<◌}
 use mathlib.Core.Path.{◌≡◌, refl, sym, ap, ap₂, ◌∙◌, subst}
 use mathlib.Core.Bool.{Bool, true, false, not, ◌&&◌, ◌||◌}
@@ -9,9 +10,7 @@ use borrow.Author.Tests.{ltb-true, leb-true, eqb-true, eqb-false, not-true, le-l
 use lib.Dec.{leb, ltb, eqb}
 use lib.ListN.{length}
 use Rattle.msgpack_first_bytes.specs.Bytes.{Bytes, pick}
-use Rattle.msgpack_values.specs.Value.{value}
-use Rattle.msgpack_values.specs.declared.Read.{Read}
-use Rattle.msgpack_values.specs.declared.Read.TheVariants.{Whole, Broken}
+use Rattle.msgpack_values.specs.Value.{value, Read}
 use Rattle.msgpack_writing.specs.Forms.{unsigned_form}
 use Rattle.frames.specs.declared.Place.{Place}
 use Rattle.frames.specs.declared.Rule.{Rule}
@@ -148,13 +147,13 @@ within64 : (m n : ℕ) → narrow (AtMost m) ≡ true → suits (AtMost m) (numb
 unfolding narrow suits
 within64 m n h k = omega (arith, leb-true m max64 h, leb-true n m k)
 
-is-whole : (r : Read) (n : ℕ) → is_whole r n ≡ true → r ≡ Whole n
+is-whole : (r : Read) (n : ℕ) → is_whole r n ≡ true → r ≡ Ok n
 unfolding is_whole
-is-whole (Whole k) n h = ap Whole (eqb-true k n h)
-is-whole (Broken p) n h = never h
+is-whole (Ok k) n h = ap Ok (eqb-true k n h)
+is-whole (Err p) n h = never h
 
 -- what is written of an item is one whole value
-held_whole : (t : Rule) (h : Held) (v : Bytes) → narrow t ≡ true → sound h ≡ true → suits t h ≡ true → encoded h ≡ some v → value held_depth v ≡ Whole (length v)
+held_whole : (t : Rule) (h : Held) (v : Bytes) → narrow t ≡ true → sound h ≡ true → suits t h ≡ true → encoded h ≡ some v → value held_depth v ≡ Ok (length v)
 unfolding sound suits encoded
 held_whole t absent v n w s e = absurd (let z : ◌≡◌ {A = ℕ} 0 1 = cc in omega arith)
 held_whole t outside v n w s e = never w

@@ -1,4 +1,5 @@
 -- A map that was written of pairs is one value, and is read as entries that hold the same bytes, at any depth. Assumes nothing.
+use Rattle.std.specs.Prelude.{Ok}
 use Prim.Native.Nat.{ℕ, suc, ◌+◌, ◌*◌, ◌^◌, ◌≤◌, ◌<◌}
 use mathlib.Core.Path.{◌≡◌, refl, sym, ap, ◌∙◌}
 use mathlib.Core.Bool.{Bool, true, false}
@@ -12,7 +13,6 @@ use lib.Seq.{take-length, take-append_seam, drop-append_seam, drop-drop}
 use Rattle.msgpack_first_bytes.specs.Bytes.{Bytes, pick}
 use Rattle.msgpack_values.specs.Value.{value}
 use Rattle.msgpack_values.specs.Pieces.{joined, Each}
-use Rattle.msgpack_values.specs.declared.Read.TheVariants.{Whole}
 use Rattle.msgpack_values.proofs.Local.{value_local, value_pos}
 use Rattle.msgpack_writing.specs.Forms.{map_header}
 use Rattle.msgpack_read_back.proofs.Back as back
@@ -31,7 +31,7 @@ All P (x ∷ xs) = P x × All P xs
 -- a key below 128, and one whole value
 pub record Fine (d : ℕ) (p : Pair) : Type 0 where
   pub low : p.key < 128
-  pub single : value d p.bytes ≡ Whole (length p.bytes)
+  pub single : value d p.bytes ≡ Ok (length p.bytes)
 
 -- ---- the map is one value
 
@@ -45,7 +45,7 @@ unfolding flat
 flat-length [] = refl
 flat-length (p ∷ ps) = let h = flat-length ps in omega arith
 
-pub map_whole : (d : ℕ) (ps : List Pair) (t : Bytes) → All (Fine d) ps → length ps < 2 ^ 32 → value (suc d) (map_form ps ++ t) ≡ Whole (length (map_form ps))
+pub map_whole : (d : ℕ) (ps : List Pair) (t : Bytes) → All (Fine d) ps → length ps < 2 ^ 32 → value (suc d) (map_form ps ++ t) ≡ Ok (length (map_form ps))
 unfolding map_form
 map_whole d ps t h l = back.map_whole d (length ps) (flat ps) t (each-flat d ps h) (flat-length ps) l
 
@@ -78,7 +78,7 @@ module _ (s : Bytes) (at : ℕ) (p : Pair) (ps : List Pair) (t : Bytes) (e : Beh
   from_next : Behind s (at + 1 + length p.bytes) rest
   from_next = behind s (at + 1) p.bytes rest from-value
 
-single_front : (d : ℕ) (v t : Bytes) → value d v ≡ Whole (length v) → value d (v ++ t) ≡ Whole (length v)
+single_front : (d : ℕ) (v t : Bytes) → value d v ≡ Ok (length v) → value d (v ++ t) ≡ Ok (length v)
 single_front d v t h = rw (take-length v) at (value_local d v t (length v) h)
 
 entry-located : (d : ℕ) (s : Bytes) (at : ℕ) (p : Pair) (ps : List Pair) (t : Bytes) → Fine d p → Behind s at (joined (flat (p ∷ ps)) ++ t)

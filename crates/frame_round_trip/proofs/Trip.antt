@@ -1,4 +1,5 @@
 -- The round trip: from what the writer accepts to bytes, to maps, to the record, and back. Assumes nothing.
+use Rattle.std.specs.Prelude.{Ok}
 use Prim.Native.Nat.{ℕ, suc, ◌+◌, ◌^◌, ◌≤◌, ◌<◌}
 use mathlib.Core.Path.{◌≡◌, refl, sym, ap, ap₂, fun_ext, ◌∙◌, subst}
 use mathlib.Core.Bool.{Bool, true}
@@ -12,16 +13,13 @@ use lib.Seq.{take_at, drop_at, take-append_seam, drop-append_seam, drop-drop}
 use Rattle.msgpack_first_bytes.specs.Bytes.{Bytes}
 use Rattle.msgpack_values.specs.Value.{value}
 use Rattle.msgpack_values.specs.Pieces.{joined}
-use Rattle.msgpack_values.specs.declared.Read.TheVariants.{Whole}
 use Rattle.msgpack_values.proofs.Local.{value_pos}
 use Rattle.msgpack_scalars.specs.Integer.{unsigned}
-use Rattle.msgpack_scalars.specs.declared.Natural.TheVariants.{Is}
 use Rattle.msgpack_writing.specs.Forms.{big_endian, tagged, map_header}
 use Rattle.msgpack_writing.proofs.Lengths.{length-big_endian}
 use Rattle.frames.specs.declared.Place.{Place}
 use Rattle.frames.specs.declared.Frame.{Frame}
 use Rattle.frames.specs.declared.FrameAnswer.{FrameAnswer}
-use Rattle.frames.specs.declared.Size.TheVariants.{Promises}
 use Rattle.frames.specs.Limits.{max_size, max_depth, held_depth, max64}
 use Rattle.frames.specs.Held.{all, Held, number, suits, number_held, encoded, is_some, Item, locate}
 use Rattle.frames.specs.Keys.{header_items, body_items, optional, code_in, frame_at, header_table, body_table}
@@ -40,18 +38,18 @@ use Rattle.frame_round_trip.proofs.Items.{both, item_keys, narrow, Ready, ready,
 -- ---- from bytes to maps
 
 -- w is a size number of five bytes, a header a and a body b, and t follows
-module _ (w a b t : Bytes) (n : ℕ) (u : unsigned (w ++ t) ≡ Is n 5) (e : drop 5 w ≡ a ++ b) (lw : length w ≡ 5 + n) (l : length (a ++ b) ≡ n) (hi : n ≤ max_size)
-    (va : value max_depth (a ++ b) ≡ Whole (length a)) (vb : value max_depth b ≡ Whole (length b)) where
+module _ (w a b t : Bytes) (n : ℕ) (u : unsigned (w ++ t) ≡ Ok (n, 5)) (e : drop 5 w ≡ a ++ b) (lw : length w ≡ 5 + n) (l : length (a ++ b) ≡ n) (hi : n ≤ max_size)
+    (va : value max_depth (a ++ b) ≡ Ok (length a)) (vb : value max_depth b ≡ Ok (length b)) where
   body_at : drop (5 + length a) w ≡ b
   body_at = sym (drop-drop (length a) 5 w) ∙ ap (drop (length a)) e ∙ drop-append_seam a b
 
   -- a body that is there
-  body_is : (b : Bytes) (s : Bytes) (at : ℕ) → value max_depth b ≡ Whole (length b) → (body_value b ≡ Whole (length b)) × (body_entries s at b ≡ entries_at held_depth s at)
+  body_is : (b : Bytes) (s : Bytes) (at : ℕ) → value max_depth b ≡ Ok (length b) → (body_value b ≡ Ok (length b)) × (body_entries s at b ≡ entries_at held_depth s at)
   unfolding body_value body_entries
   body_is [] s at v = absurd (let p = value_pos max_depth [] 0 v in omega arith)
   body_is (x ∷ b) s at v = (v, refl)
 
-  sized : size_of (w ++ t) ≡ Promises n 5
+  sized : size_of (w ++ t) ≡ Ok (n, 5)
   unfolding size_of size_by
   sized =
       let p : 1 ≤ n = omega (arith, value_pos max_depth (a ++ b) (length a) va, length-append a b) in
@@ -158,7 +156,7 @@ module _ (c : ℕ) (hs bs : List Item) (ks : List ℕ) (ok : Accepted c hs bs ks
   unfolding contents
   short = ok.short
 
-  size_first : (t : Bytes) → unsigned (w ++ t) ≡ Is (length (a ++ b)) 5
+  size_first : (t : Bytes) → unsigned (w ++ t) ≡ Ok (length (a ++ b), 5)
   unfolding w frame_form
   size_first t =
       let l = short in

@@ -9,7 +9,7 @@ ghost use Rattle.frames.specs.Keys.{line};
 ghost use Rattle.frame_rules.specs.Needs.{known_needs, needs_of, line_at};
 
 use frames::{Line, MAX_32, MAX_64, MAX_BASE, Rule};
-use msgpack_scalars::{Header, Natural, Opening};
+use msgpack_scalars::{NoNumber, Opening};
 
 // The body keys that a code requires: the first `count` of `keys`, the others 0; not known: no such code.
 #[derive(Clone, Copy)]
@@ -23,8 +23,8 @@ fn has_header(v: &[u8], opening: Opening) -> bool
     ensures { result ≡ is_header (header (start_by opening) v.now) }
 {
     match msgpack_scalars::header_at(v, 0, opening) {
-        Header::Is(_, _) => true,
-        Header::Other => false,
+        Some(_) => true,
+        None => false,
     }
 }
 
@@ -32,9 +32,9 @@ fn at_most(v: &[u8], limit: u64) -> bool
     ensures { result ≡ suits (Rule.AtMost limit) (value_held (Rule.AtMost limit) v.now) }
 {
     match msgpack_scalars::unsigned_at(v, 0) {
-        Natural::Is(n, _) => n <= limit,
-        Natural::Cut => false,
-        Natural::Other => false,
+        Ok((n, _)) => n <= limit,
+        Err(NoNumber::Cut) => false,
+        Err(NoNumber::Other) => false,
     }
 }
 

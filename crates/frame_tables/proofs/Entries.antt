@@ -1,4 +1,5 @@
 -- One entry of a map, one law for each way that the code takes; what holds of every entry. Assumes nothing.
+use Rattle.std.specs.Prelude.{Some, None, Ok, Err}
 use mathlib.Core.Path.{◌≡◌, refl, subst, ap}
 use mathlib.Core.List.{List, [], ◌∷◌}
 use mathlib.Core.Bool.{Bool, true, false}
@@ -13,45 +14,39 @@ use types.Run.{OneOf}
 use denote.Enum.Declared.{tag_of}
 use Rattle.msgpack_first_bytes.specs.Bytes.{Bytes}
 use Rattle.msgpack_first_bytes.proofs.Logic.{impossible}
-use Rattle.msgpack_values.specs.Value.{shift, value}
-use Rattle.msgpack_values.specs.declared.Read.{Read}
-use Rattle.msgpack_values.specs.declared.Read.TheVariants.{Whole, Broken}
+use Rattle.msgpack_values.specs.Value.{shift, value, Read}
 use Rattle.msgpack_values.proofs.Local.{value_good, value_pos}
-use Rattle.msgpack_scalars.specs.Integer.{unsigned, shift_natural}
+use Rattle.msgpack_scalars.specs.Integer.{unsigned, shift_natural, Natural}
 use Rattle.msgpack_scalars.specs.Start.{map_by}
-use Rattle.msgpack_scalars.specs.Header.{header, shift_header}
-use Rattle.msgpack_scalars.specs.declared.Header.{Header}
-use Rattle.msgpack_scalars.specs.declared.Header.TheVariants.{Is as HeaderIs, Other as NoHeader}
-use Rattle.msgpack_scalars.specs.declared.Natural.{Natural}
-use Rattle.msgpack_scalars.specs.declared.Natural.TheVariants.{Is, Cut, Other}
+use Rattle.msgpack_scalars.specs.Header.{header, shift_header, Header}
 use Rattle.msgpack_scalars.specs.contracts.Natural as natural-type
 use Rattle.frames.specs.Limits.{held_depth, max_key}
 use Rattle.frames.specs.Maps.{Entry, entry, keyed, entry_at, entries, entries_by, entries_at}
 use Rattle.frames.specs.Cascade.{check, given, whole}
 use Rattle.frame_tables.specs.Tables.{step_of}
-use Rattle.frame_tables.specs.declared.Step.TheVariants.{Entry as StepEntry, NoKey}
+use Rattle.msgpack_scalars.specs.declared.NoNumber.TheVariants.{Cut, Other}
 
 -- the `else` of `let Natural::Is(..) = .. else`
 not_is : {A : Type 0} (at : ℕ) (u v : Natural) (next : ℕ → ℕ → Option A) → u ≡ shift_natural at v → OneOf (1 ∷ 2 ∷ []) (tag_of natural-type.the_type u) → keyed v next ≡ none
 unfolding keyed
-not_is at u Cut next e o = refl
-not_is at u Other next e o = refl
-not_is at u (Is k l) next e o = absurd (⊎_elim (λ z. omega arith) (λ z. omega arith) (subst (λ (u : Natural). OneOf (1 ∷ 2 ∷ []) (tag_of natural-type.the_type u)) e o))
+not_is at u (Err Cut) next e o = refl
+not_is at u (Err Other) next e o = refl
+not_is at u (Ok (k, l)) next e o = absurd (⊎_elim (λ z. omega arith) (λ z. omega arith) (subst (λ (u : Natural). OneOf (1 ∷ 2 ∷ []) (tag_of natural-type.the_type u)) e o))
 
 -- a number of the place, by the answer counted from the front
-found : (at k e : ℕ) (v : Natural) → Is k e ≡ shift_natural at v → (l : ℕ) × (v ≡ Is k l) × (e ≡ at + l)
-found at k e (Is j l) q = let z : k ≡ j = cc in (l, rw z, cc)
-found at k e Cut q = impossible cc
-found at k e Other q = impossible cc
+found : (at k e : ℕ) (v : Natural) → Ok (k, e) ≡ shift_natural at v → (l : ℕ) × (v ≡ Ok (k, l)) × (e ≡ at + l)
+found at k e (Ok (j, l)) q = let z : k ≡ j = cc in (l, rw z, cc)
+found at k e (Err Cut) q = impossible cc
+found at k e (Err Other) q = impossible cc
 
 module _ (s : Bytes) (at : ℕ) where
   pub no_number : (u : Natural) → u ≡ shift_natural at (unsigned (drop at s)) → OneOf (1 ∷ 2 ∷ []) (tag_of natural-type.the_type u)
-      → NoKey ≡ step_of (entry_at held_depth s at)
+      → None ≡ step_of (entry_at held_depth s at)
   unfolding entry_at step_of
   no_number u e o = rw (not_is at u (unsigned (drop at s)) _ e o)
 
-  module _ (k a : ℕ) (q : Is k a ≡ shift_natural at (unsigned (drop at s))) where
-    pub large_key : max_key < k → NoKey ≡ step_of (entry_at held_depth s at)
+  module _ (k a : ℕ) (q : Ok (k, a) ≡ shift_natural at (unsigned (drop at s))) where
+    pub large_key : max_key < k → None ≡ step_of (entry_at held_depth s at)
     unfolding entry_at step_of keyed check
     large_key h = rw ((found at k a (unsigned (drop at s)) q).1, lt-leb k max_key h)
 
@@ -61,37 +56,37 @@ module _ (s : Bytes) (at : ℕ) where
         let f = found at k a (unsigned (drop at s)) q in
         rw (f.1, le-leb k max_key h, ← f.2)
 
-    pub no_value : (p : ℕ) → k ≤ max_key → Broken p ≡ shift a (value held_depth (drop a s)) → NoKey ≡ step_of (entry_at held_depth s at)
+    pub no_value : (p : ℕ) → k ≤ max_key → Err p ≡ shift a (value held_depth (drop a s)) → None ≡ step_of (entry_at held_depth s at)
     unfolding step_of whole
     no_value p h e = rw (keyed-value h) (go (value held_depth (drop a s)) e)
       where
-        go : (r : Read) → Broken p ≡ shift a r → NoKey ≡ step_of (whole none r (λ m. some (entry k a m)))
-        go (Whole m) e = impossible cc
-        go (Broken m) e = refl
+        go : (r : Read) → Err p ≡ shift a r → None ≡ step_of (whole none r (λ m. some (entry k a m)))
+        go (Ok m) e = impossible cc
+        go (Err m) e = refl
 
-    pub one_entry : (end : ℕ) → k ≤ max_key → Whole end ≡ shift a (value held_depth (drop a s)) → StepEntry k a (end - a) ≡ step_of (entry_at held_depth s at)
+    pub one_entry : (end : ℕ) → k ≤ max_key → Ok end ≡ shift a (value held_depth (drop a s)) → Some (k, a, end - a) ≡ step_of (entry_at held_depth s at)
     unfolding step_of whole
     one_entry end h e = rw (keyed-value h) (go (value held_depth (drop a s)) e)
       where
-        go : (r : Read) → Whole end ≡ shift a r → StepEntry k a (end - a) ≡ step_of (whole none r (λ m. some (entry k a m)))
-        go (Whole m) e = let z : end ≡ a + m = cc in ap (StepEntry k a) (omega arith)
-        go (Broken m) e = impossible cc
+        go : (r : Read) → Ok end ≡ shift a r → Some (k, a, end - a) ≡ step_of (whole none r (λ m. some (entry k a m)))
+        go (Ok m) e = let z : end ≡ a + m = cc in ap (λ a. Some (k, a, a)) (omega arith)
+        go (Err m) e = impossible cc
 
-pub ends_after : (s : Bytes) (a end : ℕ) → Whole end ≡ shift a (value held_depth (drop a s)) → a ≤ end
+pub ends_after : (s : Bytes) (a end : ℕ) → Ok end ≡ shift a (value held_depth (drop a s)) → a ≤ end
 ends_after s a end e = go (value held_depth (drop a s)) e
   where
-    go : (r : Read) → Whole end ≡ shift a r → a ≤ end
-    go (Whole m) e = let z : end ≡ a + m = cc in omega arith
-    go (Broken m) e = impossible cc
+    go : (r : Read) → Ok end ≡ shift a r → a ≤ end
+    go (Ok m) e = let z : end ≡ a + m = cc in omega arith
+    go (Err m) e = impossible cc
 
 -- ---- what a step says
 
-pub step-none : (o : Option Entry) → NoKey ≡ step_of o → o ≡ none
+pub step-none : (o : Option Entry) → None ≡ step_of o → o ≡ none
 unfolding step_of
 step-none none e = refl
 step-none (some x) e = impossible cc
 
-pub step_some : (o : Option Entry) (k a m : ℕ) → StepEntry k a m ≡ step_of o → o ≡ some (entry k a m)
+pub step_some : (o : Option Entry) (k a m : ℕ) → Some (k, a, m) ≡ step_of o → o ≡ some (entry k a m)
 unfolding step_of
 step_some none k a m e = impossible cc
 step_some (some x) k a m e =
@@ -111,21 +106,21 @@ unfolding entry_at keyed check whole
 entry-fits d s at e q = by_key (unsigned (drop at s)) q
   where
     by_value : (k a : ℕ) → k ≤ max_key → (r : Read) → value d (drop a s) ≡ r → whole none r (λ m. some (entry k a m)) ≡ some e → Fits s e
-    by_value k a h (Whole m) v q =
+    by_value k a h (Ok m) v q =
         let i = simp length-drop at (value_good d (drop a s) m v).0 in
         let p = value_pos d (drop a s) m v in
         let z : entry k a m ≡ e = cc in
         subst (Fits s) z (record { low = omega arith; long = p; inside = omega arith })
-    by_value k a h (Broken m) v q = impossible cc
+    by_value k a h (Err m) v q = impossible cc
 
     by_test : (k a : ℕ) (b : Bool) → leb k max_key ≡ b → check none b (whole none (value d (drop a s)) (λ m. some (entry k a m))) ≡ some e → Fits s e
     by_test k a true t q = by_value k a (leb-true k max_key t) (value d (drop a s)) refl q
     by_test k a false t q = impossible cc
 
     by_key : (u : Natural) → keyed u (λ k l. whole none (value d (drop (at + l) s)) (λ m. some (entry k (at + l) m))) ≡ some e → Fits s e
-    by_key (Is k l) q = by_test k (at + l) (leb k max_key) refl q
-    by_key Cut q = impossible cc
-    by_key Other q = impossible cc
+    by_key (Ok (k, l)) q = by_test k (at + l) (leb k max_key) refl q
+    by_key (Err Cut) q = impossible cc
+    by_key (Err Other) q = impossible cc
 
 -- each of a map's entries is one
 pub data AllFit (s : Bytes) : List Entry → Type 0 where
@@ -149,26 +144,26 @@ entries_fit d s (suc n) at es q = first (entry_at d s at) refl (entries_fit d s 
 -- ---- the map at a place
 
 module _ (d : ℕ) (s : Bytes) (at : ℕ) where
-  pub no_map : NoHeader ≡ shift_header at (header map_by (drop at s)) → entries_at d s at ≡ none
+  pub no_map : None ≡ shift_header at (header map_by (drop at s)) → entries_at d s at ≡ none
   unfolding entries_at entries_by
   no_map e = go (header map_by (drop at s)) e
     where
-      go : (h : Header) → NoHeader ≡ shift_header at h → entries_by d s at h ≡ none
-      go (HeaderIs n l) e = impossible cc
-      go NoHeader e = refl
+      go : (h : Header) → None ≡ shift_header at h → entries_by d s at h ≡ none
+      go (Some (n, l)) e = impossible cc
+      go None e = refl
 
-  pub a-map : (n from : ℕ) → HeaderIs n from ≡ shift_header at (header map_by (drop at s)) → entries_at d s at ≡ entries d s n from
+  pub a-map : (n from : ℕ) → Some (n, from) ≡ shift_header at (header map_by (drop at s)) → entries_at d s at ≡ entries d s n from
   unfolding entries_at entries_by
   a-map n from e = go (header map_by (drop at s)) e
     where
-      go : (h : Header) → HeaderIs n from ≡ shift_header at h → entries_by d s at h ≡ entries d s n from
-      go (HeaderIs m l) e = let p : n ≡ m = cc in let q : from ≡ at + l = cc in rw (p, q)
-      go NoHeader e = impossible cc
+      go : (h : Header) → Some (n, from) ≡ shift_header at h → entries_by d s at h ≡ entries d s n from
+      go (Some (m, l)) e = let p : n ≡ m = cc in let q : from ≡ at + l = cc in rw (p, q)
+      go None e = impossible cc
 
   pub all_fit : (es : List Entry) → entries_at d s at ≡ some es → AllFit s es
   unfolding entries_at entries_by
   all_fit es e = go (header map_by (drop at s)) e
     where
       go : (h : Header) → entries_by d s at h ≡ some es → AllFit s es
-      go (HeaderIs n l) e = entries_fit d s n (at + l) es e
-      go NoHeader e = impossible cc
+      go (Some (n, l)) e = entries_fit d s n (at + l) es e
+      go None e = impossible cc

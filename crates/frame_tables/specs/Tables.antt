@@ -1,16 +1,14 @@
 -- Inner: a map's entries laid into a table: where each key's value starts, and its length.
-use Rattle.std.specs.Prelude.{ℕ, List, [], ◌∷◌, eqb, get_or, set, replicate}
+use Rattle.std.specs.Prelude.{ℕ, List, [], ◌∷◌, eqb, get_or, set, replicate, Some, None, Option}
 use Rattle.std.proofs.Math.Option.{Option, none, some}
 use Rattle.msgpack_first_bytes.specs.Bytes.{pick}
 use Rattle.frames.specs.declared.Place.{Place}
 use Rattle.frames.specs.Keys.{nowhere}
 use Rattle.frames.specs.Maps.{Entry, placed}
-use Rattle.frame_tables.specs.declared.Step.{Step}
-use Rattle.frame_tables.specs.declared.Step.TheVariants.{Entry as StepEntry, NoKey}
 
-unfoldable pub step_of : Option Entry → Step
-step_of none = NoKey
-step_of (some e) = StepEntry e.key e.start e.length
+unfoldable pub step_of : Option Entry → Option (ℕ × ℕ × ℕ)
+step_of none = None
+step_of (some e) = Some (e.key, e.start, e.length)
 
 -- Where the value of each key starts, and its length: 0 where the key is absent. The number is 6
 -- where the value is no map or a key no number below 128, 7 where a key stands twice, else 0.

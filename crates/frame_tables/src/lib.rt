@@ -8,30 +8,22 @@ ghost use Rattle.frames.specs.Maps.{entry_at, entries, entries_at};
 ghost use Rattle.frame_tables.specs.Tables.{table, step_of, empty_table, tabled_on, place_in};
 
 use frames::Place;
-use msgpack_scalars::{Header, Natural, Opening};
-use msgpack_values::Read;
-
-// One key of a map with its value's start and length, or that it is no key.
-#[derive(Clone, Copy)]
-enum Step {
-    Entry(usize, usize, usize),
-    NoKey,
-}
+use msgpack_scalars::Opening;
 
 // The entry at `at`.
-fn entry_at(s: &[u8], at: usize) -> Step
+fn entry_at(s: &[u8], at: usize) -> Option<(usize, usize, usize)>
     ensures { result ≡ step_of (entry_at held_depth s.now at) }
 {
-    let Natural::Is(key, start) = msgpack_scalars::unsigned_at(s, at) else {
-        return Step::NoKey;
+    let Ok((key, start)) = msgpack_scalars::unsigned_at(s, at) else {
+        return None;
     };
     if frames::MAX_KEY < key {
-        return Step::NoKey;
+        return None;
     }
-    let Read::Whole(end) = msgpack_values::read_value(s, start, frames::HELD_DEPTH) else {
-        return Step::NoKey;
+    let Ok(end) = msgpack_values::read_value(s, start, frames::HELD_DEPTH) else {
+        return None;
     };
-    Step::Entry(key as usize, start, end - start)
+    Some((key as usize, start, end - start))
 }
 
 // 6, and the table emptied: what was laid before says nothing then.
@@ -58,7 +50,7 @@ fn table_of(
     let mut at = from;
     let mut left = count;
     while 0 < left {
-        let Step::Entry(key, start, length) = entry_at(s, at) else {
+        let Some((key, start, length)) = entry_at(s, at) else {
             return no_table(starts, lengths);
         };
         if lengths[key] == 0 {
@@ -81,8 +73,8 @@ pub fn table_at(s: &[u8], at: usize, starts: &mut [usize; 128], lengths: &mut [u
         ≡ tabled_on (table 0 starts.old lengths.old) (entries_at held_depth s.now at) }
 {
     match msgpack_scalars::header_at(s, at, Opening::Map) {
-        Header::Is(count, from) => table_of(s, count, from, starts, lengths),
-        Header::Other => no_table(starts, lengths),
+        Some((count, from)) => table_of(s, count, from, starts, lengths),
+        None => no_table(starts, lengths),
     }
 }
 

@@ -1,10 +1,10 @@
 -- Each step of a judgement is its refusal or what comes next, with what the step found. Assumes nothing.
+use Rattle.std.specs.Prelude.{Ok, Err}
 use Prim.Native.Nat.{ℕ}
 use mathlib.Core.Path.{◌≡◌, refl}
 use mathlib.Core.Bool.{Bool, true, false}
 use mathlib.Core.Option.{Option, none, some}
-use Rattle.msgpack_values.specs.declared.Read.{Read}
-use Rattle.msgpack_values.specs.declared.Read.TheVariants.{Whole, Broken}
+use Rattle.msgpack_values.specs.Value.{Read}
 use Rattle.frames.specs.Cascade.{check, given, whole}
 
 module _ {A : Type 0} (P : A → Type 0) {refusal : A} where
@@ -18,7 +18,7 @@ module _ {A : Type 0} (P : A → Type 0) {refusal : A} where
   by_given none p q = p
   by_given (some a) p q = q a refl
 
-  pub by_whole : {next : ℕ → A} (x : Read) → ((k : ℕ) → x ≡ Broken k → P refusal) → ((k : ℕ) → x ≡ Whole k → P (next k)) → P (whole refusal x next)
+  pub by_whole : {next : ℕ → A} (x : Read) → ((k : ℕ) → x ≡ Err k → P refusal) → ((k : ℕ) → x ≡ Ok k → P (next k)) → P (whole refusal x next)
   unfolding whole
-  by_whole (Whole k) p q = q k refl
-  by_whole (Broken k) p q = p k refl
+  by_whole (Ok k) p q = q k refl
+  by_whole (Err k) p q = p k refl

@@ -1,4 +1,5 @@
 -- Reading contents never answers 1, and accepts all of them. Assumes nothing.
+use Rattle.std.specs.Prelude.{Ok, Err}
 use mathlib.Core.Path.{◌≡◌, refl}
 use mathlib.Core.Bool.{true}
 use mathlib.Core.List.{[], ◌∷◌}
@@ -13,7 +14,6 @@ use Rattle.msgpack_first_bytes.proofs.Logic.{impossible}
 use Rattle.msgpack_values.specs.Value.{value}
 use Rattle.msgpack_values.specs.Spoiled.{no_place}
 use Rattle.msgpack_values.specs.declared.OptionalNumber.{OptionalNumber}
-use Rattle.msgpack_values.specs.declared.Read.TheVariants.{Whole, Broken}
 use Rattle.msgpack_values.proofs.Local.{value_good}
 use Rattle.frames.specs.Limits.{max_depth}
 use Rattle.frames.specs.Reading.{refuse_at, refuse, accept, by_places, by_entries, body_value, broken, in_frame}
@@ -23,14 +23,14 @@ use Rattle.frames.proofs.Cascade.{by_check, by_given, by_whole}
 
 -- ---- every way through the contents
 
-body-broken : (t : Bytes) (p : ℕ) → body_value t ≡ Broken p → value max_depth t ≡ Broken p
+body-broken : (t : Bytes) (p : ℕ) → body_value t ≡ Err p → value max_depth t ≡ Err p
 unfolding body_value
 body-broken [] p e = impossible cc
 body-broken (b ∷ t) p e = e
 
 -- header or body: what begins at `at`, or after a whole value there
 abbrev pub Begins : Bytes → ℕ → ℕ → Type 0
-Begins s at from = (from ≡ at) ⊎ ((h : ℕ) × (value max_depth (drop at s) ≡ Whole h) × (from ≡ at + h))
+Begins s at from = (from ≡ at) ⊎ ((h : ℕ) × (value max_depth (drop at s) ≡ Ok h) × (from ≡ at + h))
 
 pub begins_after : (s : Bytes) (at from : ℕ) → Begins s at from → at ≤ from
 begins_after s at from b = ⊎_elim (λ e. omega arith) (λ x. let e = x.2 in omega arith) b
@@ -45,7 +45,7 @@ begins_inside s at from b l =
 
 -- 5 to 10, 4 where header or body is broken, or the record
 module _ (P : FrameAnswer → Type 0) (s : Bytes) (at : ℕ) (refuses : (k : ℕ) → leb 5 k ≡ true → P (refuse k))
-    (breaks : (from p : ℕ) → Begins s at from → value max_depth (drop from s) ≡ Broken p → P (broken s from)) (accepts : (r : Frame) → P (accept (length s) r)) where
+    (breaks : (from p : ℕ) → Begins s at from → value max_depth (drop from s) ≡ Err p → P (broken s from)) (accepts : (r : Frame) → P (accept (length s) r)) where
   pub in_frame_lem : P (in_frame s at)
   unfolding in_frame by_entries by_places
   in_frame_lem =

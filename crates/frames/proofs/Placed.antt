@@ -1,4 +1,5 @@
 -- A frame's place is given with 4 alone, past its size number and at most at its end, and is that of header or body. Assumes nothing.
+use Rattle.std.specs.Prelude.{Ok, Err}
 use mathlib.Core.Path.{◌≡◌, refl, sym, ap, ◌∙◌}
 use mathlib.Core.Bool.{Bool, true, false, ◌&&◌}
 use Prim.Native.Nat.{ℕ, ◌+◌, ◌≤◌}
@@ -12,17 +13,14 @@ use Rattle.msgpack_first_bytes.proofs.Logic.{impossible}
 use Rattle.msgpack_values.specs.Value.{value}
 use Rattle.msgpack_values.specs.Spoiled.{no_place, at_place, spoiled_at}
 use Rattle.msgpack_values.specs.declared.OptionalNumber.{OptionalNumber}
-use Rattle.msgpack_values.specs.declared.Read.TheVariants.{Broken}
 use Rattle.msgpack_values.proofs.Spoiled.{spoiled-broken, broken-inside}
-use Rattle.msgpack_scalars.specs.Integer.{unsigned}
-use Rattle.msgpack_scalars.specs.declared.Natural.{Natural}
-use Rattle.msgpack_scalars.specs.declared.Natural.TheVariants.{Is, Cut, Other}
+use Rattle.msgpack_scalars.specs.Integer.{unsigned, Natural}
 use Rattle.frames.specs.Limits.{max_size, max_depth}
 use Rattle.frames.specs.Cascade.{check}
 use Rattle.frames.specs.Reading.{refuse, accept, broken, in_frame, size_by, size_of, by_size, frame_read}
 use Rattle.frames.specs.declared.FrameAnswer.{FrameAnswer}
-use Rattle.frames.specs.declared.Size.TheVariants.{Promises, Refused}
 use Rattle.frames.proofs.Judged.{Begins, begins_after, begins_inside, in_frame_lem}
+use Rattle.msgpack_scalars.specs.declared.NoNumber.TheVariants.{Cut, Other}
 
 -- of an answer on n bytes, whose header begins at k; an absent place is 0
 pub record Placed (k n : ℕ) (a : FrameAnswer) : Type 0 where
@@ -34,7 +32,7 @@ without : (k n i : ℕ) → (i ≡ 4 → ⊥) → Placed k n (refuse i)
 unfolding refuse
 without k n i h = record { exactly = sym (ne_eqb i 4 h); past = λ e. impossible cc; within = omega arith }
 
-spoiled-placed : (s : Bytes) (k from p : ℕ) → k ≤ from → from ≤ length s → value max_depth (drop from s) ≡ Broken p → Placed k (length s) (broken s from)
+spoiled-placed : (s : Bytes) (k from p : ℕ) → k ≤ from → from ≤ length s → value max_depth (drop from s) ≡ Err p → Placed k (length s) (broken s from)
 unfolding broken
 spoiled-placed s k from p a b e =
     let i = broken-inside max_depth from s b e in
@@ -51,7 +49,7 @@ pub record Lent (s : Bytes) (k n : ℕ) (a : FrameAnswer) : Type 0 where
   pub placed : Placed k (k + n) a
   pub lent : a.place.value ≤ length s
 
-promised : (s : Bytes) (n k : ℕ) → Lent s k n (by_size s (Promises n k))
+promised : (s : Bytes) (n k : ℕ) → Lent s k n (by_size s (Ok (n, k)))
 unfolding by_size check
 promised s n k = go (leb (k + n) (length s)) refl
   where
@@ -67,7 +65,7 @@ promised s n k = go (leb (k + n) (length s)) refl
         record { placed = p; lent = omega arith }
     go false e = nothing 1 (λ e. omega arith)
 
-pub frame_promised : (s : Bytes) (n k : ℕ) → size_of s ≡ Promises n k → Placed k (k + n) (frame_read s)
+pub frame_promised : (s : Bytes) (n k : ℕ) → size_of s ≡ Ok (n, k) → Placed k (k + n) (frame_read s)
 unfolding frame_read
 frame_promised s n k e = rw e (promised s n k).placed
 
@@ -77,13 +75,13 @@ unfolding frame_read size_of size_by
 frame-placed s = go (unsigned s)
   where
     go : (u : Natural) → Placed 0 (length s) (by_size s (size_by u))
-    go (Is n k) = by_size_lem (leb 1 n && leb n max_size)
+    go (Ok (n, k)) = by_size_lem (leb 1 n && leb n max_size)
       where
-        by_size_lem : (b : Bool) → Placed 0 (length s) (by_size s (pick b (Promises n k) (Refused 3 k)))
+        by_size_lem : (b : Bool) → Placed 0 (length s) (by_size s (pick b (Ok (n, k)) (Err (3, k))))
         by_size_lem true = let x = promised s n k in record { exactly = x.placed.exactly; past = λ _. omega arith; within = x.lent }
         by_size_lem false = unfold by_size in without 0 (length s) 3 (λ e. omega arith)
-    go Cut = unfold by_size in without 0 (length s) 1 (λ e. omega arith)
-    go Other = unfold by_size in without 0 (length s) 2 (λ e. omega arith)
+    go (Err Cut) = unfold by_size in without 0 (length s) 1 (λ e. omega arith)
+    go (Err Other) = unfold by_size in without 0 (length s) 2 (λ e. omega arith)
 
 -- ---- it is the place of header or body
 
@@ -97,7 +95,7 @@ contents_of_lem : (f : Bytes) (k : ℕ) → OfValue k f (in_frame f k)
 unfolding refuse accept broken
 contents_of_lem f k = in_frame_lem (OfValue k f) f k (λ i h. of_none k f (refuse i) refl) (λ from q b e p h. (from, b, h)) (λ r. of_none k f (accept (length f) r) refl)
 
-pub frame_of_value : (s : Bytes) (n k : ℕ) → size_of s ≡ Promises n k → OfValue k (take (k + n) s) (frame_read s)
+pub frame_of_value : (s : Bytes) (n k : ℕ) → size_of s ≡ Ok (n, k) → OfValue k (take (k + n) s) (frame_read s)
 unfolding frame_read by_size check refuse
 frame_of_value s n k e = rw e (go (leb (k + n) (length s)))
   where

@@ -1,8 +1,7 @@
 -- The steps of a judgement in order: what comes first decides.
-use Rattle.std.specs.Prelude.{ℕ, Bool, true, false}
+use Rattle.std.specs.Prelude.{ℕ, Bool, true, false, Ok, Err}
 use Rattle.std.proofs.Math.Option.{Option, none, some}
-use Rattle.msgpack_values.specs.declared.Read.{Read}
-use Rattle.msgpack_values.specs.declared.Read.TheVariants.{Whole, Broken}
+use Rattle.msgpack_values.specs.Value.{Read}
 
 -- the refusal where the test fails, else what comes next
 unfoldable pub check : {A : Type 0} → A → Bool → A → A
@@ -16,5 +15,5 @@ given refusal (some x) next = next x
 
 -- the refusal where the value is broken, else what comes next, with its length
 unfoldable pub whole : {B : Type 0} → B → Read → (ℕ → B) → B
-whole refusal (Whole n) next = next n
-whole refusal (Broken p) next = refusal
+whole refusal (Ok n) next = next n
+whole refusal (Err p) next = refusal

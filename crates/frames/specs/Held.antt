@@ -1,19 +1,16 @@
 -- What a key holds, and what it must hold.
-use Rattle.std.specs.Prelude.{ℕ, ◌+◌, Bool, true, false, ◌&&◌, List, [], ◌∷◌, leb, eqb, length, take, drop}
+use Rattle.std.specs.Prelude.{ℕ, ◌+◌, Bool, true, false, ◌&&◌, List, [], ◌∷◌, leb, eqb, length, take, drop, Some, None, Ok, Err}
 use Rattle.std.proofs.Math.Option.{Option, none, some}
 use Rattle.msgpack_first_bytes.specs.Bytes.{Bytes, pick}
 use Rattle.msgpack_scalars.specs.Start.{string_by, array_by}
-use Rattle.msgpack_scalars.specs.Integer.{unsigned}
-use Rattle.msgpack_scalars.specs.Header.{header}
-use Rattle.msgpack_scalars.specs.declared.Natural.{Natural}
-use Rattle.msgpack_scalars.specs.declared.Natural.TheVariants.{Is, Cut, Other}
-use Rattle.msgpack_scalars.specs.declared.Header.{Header}
-use Rattle.msgpack_scalars.specs.declared.Header.TheVariants.{Is as HeaderIs, Other as NoHeader}
+use Rattle.msgpack_scalars.specs.Integer.{unsigned, Natural}
+use Rattle.msgpack_scalars.specs.Header.{header, Header}
 use Rattle.msgpack_writing.specs.Forms.{unsigned_form}
 use Rattle.msgpack_values.specs.declared.OptionalNumber.{OptionalNumber}
 use Rattle.frames.specs.declared.Place.{Place}
 use Rattle.frames.specs.declared.Rule.{Rule}
 use Rattle.frames.specs.declared.Rule.TheVariants.{AtMost, Array, String, Anything}
+use Rattle.msgpack_scalars.specs.declared.NoNumber.TheVariants.{Cut, Other}
 
 unfoldable pub all : {A : Type 0} → (A → Bool) → List A → Bool
 all p [] = true
@@ -33,9 +30,9 @@ view s p = take p.length (drop p.start s)
 
 -- the number that a view is, in any width
 unfoldable pub as_number : Natural → Option ℕ
-as_number (Is n e) = some n
-as_number Cut = none
-as_number Other = none
+as_number (Ok (n, e)) = some n
+as_number (Err Cut) = none
+as_number (Err Other) = none
 
 unfoldable pub number_in : Bytes → Place → Option ℕ
 number_in s p = pick p.present (as_number (unsigned (view s p))) none
@@ -43,8 +40,8 @@ number_in s p = pick p.present (as_number (unsigned (view s p))) none
 -- ---- 9: "a known key holds a wrong type or range". One check for the reader and the writer
 
 unfoldable pub is_header : Header → Bool
-is_header (HeaderIs n e) = true
-is_header NoHeader = false
+is_header (Some (n, e)) = true
+is_header None = false
 
 unfoldable pub suits : Rule → Held → Bool
 suits rule absent = true

@@ -1,19 +1,16 @@
 -- A map of a frame as a list of entries: each key, and where its value stands.
-use Rattle.std.specs.Prelude.{ℕ, zero, suc, ◌+◌, Bool, true, false, not, ◌&&◌, ◌||◌, List, [], ◌∷◌, leb, eqb, drop}
+use Rattle.std.specs.Prelude.{ℕ, zero, suc, ◌+◌, Bool, true, false, not, ◌&&◌, ◌||◌, List, [], ◌∷◌, leb, eqb, drop, Some, None, Ok, Err}
 use Rattle.std.proofs.Math.Option.{Option, none, some}
 use Rattle.msgpack_first_bytes.specs.Bytes.{Bytes, pick}
 use Rattle.msgpack_values.specs.Value.{value}
 use Rattle.msgpack_scalars.specs.Start.{map_by}
-use Rattle.msgpack_scalars.specs.Integer.{unsigned}
-use Rattle.msgpack_scalars.specs.Header.{header}
-use Rattle.msgpack_scalars.specs.declared.Natural.{Natural}
-use Rattle.msgpack_scalars.specs.declared.Natural.TheVariants.{Is, Cut, Other}
-use Rattle.msgpack_scalars.specs.declared.Header.{Header}
-use Rattle.msgpack_scalars.specs.declared.Header.TheVariants.{Is as HeaderIs, Other as NoHeader}
+use Rattle.msgpack_scalars.specs.Integer.{unsigned, Natural}
+use Rattle.msgpack_scalars.specs.Header.{header, Header}
 use Rattle.frames.specs.declared.Place.{Place}
 use Rattle.frames.specs.Limits.{max_key}
 use Rattle.frames.specs.Keys.{nowhere}
 use Rattle.frames.specs.Cascade.{check, given, whole}
+use Rattle.msgpack_scalars.specs.declared.NoNumber.TheVariants.{Cut, Other}
 
 pub record Entry : Type 0 where
   pub key : ℕ
@@ -25,9 +22,9 @@ entry k a n = record { key = k; start = a; length = n }
 
 -- "Their keys are unsigned numbers 0 to 127"; a key in a signed form is none
 unfoldable pub keyed : {A : Type 0} → Natural → (ℕ → ℕ → Option A) → Option A
-keyed Other next = none
-keyed Cut next = none
-keyed (Is k l) next = check none (leb k max_key) (next k l)
+keyed (Err Other) next = none
+keyed (Err Cut) next = none
+keyed (Ok (k, l)) next = check none (leb k max_key) (next k l)
 
 -- the entry at `at`, its value of depth at most d: none where its key is no key (the values of a whole map are whole)
 unfoldable pub entry_at : ℕ → Bytes → ℕ → Option Entry
@@ -42,8 +39,8 @@ entries d s (suc n) at =
     some (e ∷ es)))
 
 unfoldable pub entries_by : ℕ → Bytes → ℕ → Header → Option (List Entry)
-entries_by d s at (HeaderIs n l) = entries d s n (at + l)
-entries_by d s at NoHeader = none
+entries_by d s at (Some (n, l)) = entries d s n (at + l)
+entries_by d s at None = none
 
 -- the entries of the value at `at`: none also where it is no map
 unfoldable pub entries_at : ℕ → Bytes → ℕ → Option (List Entry)

@@ -1,28 +1,27 @@
 -- Reading a frame. "Order in reading: 2 on the first byte, 1 for an unfinished size number, 3, 1 for missing contents, then 4 to 10;
 -- each over the whole header and then the whole body before the next."
-use Rattle.std.specs.Prelude.{ℕ, ◌+◌, Bool, ◌&&◌, List, [], ◌∷◌, leb, eqb, length, take, drop}
+use Rattle.std.specs.Prelude.{ℕ, ◌+◌, Bool, ◌&&◌, List, [], ◌∷◌, leb, eqb, length, take, drop, Ok, Err, Result}
 use Rattle.std.proofs.Math.Option.{Option, some}
 use Rattle.msgpack_first_bytes.specs.Bytes.{Bytes, pick}
-use Rattle.msgpack_values.specs.Value.{value}
+use Rattle.msgpack_values.specs.Value.{value, Read}
 use Rattle.msgpack_values.specs.Spoiled.{no_place, spoiled_at}
 use Rattle.msgpack_values.specs.declared.OptionalNumber.{OptionalNumber}
-use Rattle.msgpack_values.specs.declared.Read.{Read}
-use Rattle.msgpack_values.specs.declared.Read.TheVariants.{Whole}
-use Rattle.msgpack_scalars.specs.Integer.{unsigned}
-use Rattle.msgpack_scalars.specs.declared.Natural.{Natural}
-use Rattle.msgpack_scalars.specs.declared.Natural.TheVariants.{Is, Cut, Other}
+use Rattle.msgpack_scalars.specs.Integer.{unsigned, Natural}
 use Rattle.frames.specs.declared.Place.{Place}
 use Rattle.frames.specs.declared.Frame.{Frame}
 use Rattle.frames.specs.declared.Line.{Line}
 use Rattle.frames.specs.declared.FrameAnswer.{FrameAnswer}
-use Rattle.frames.specs.declared.Size.{Size}
-use Rattle.frames.specs.declared.Size.TheVariants.{Promises, Refused}
 use Rattle.frames.specs.Limits.{max_size, max_depth, held_depth}
 use Rattle.frames.specs.Held.{all, suits, held_at}
 use Rattle.frames.specs.Keys.{code_in, frame_at, empty_frame, header_table, body_table}
 use Rattle.frames.specs.Codes.{required}
 use Rattle.frames.specs.Maps.{Entry, entries_at, keys, distinct, find}
 use Rattle.frames.specs.Cascade.{check, given, whole}
+use Rattle.msgpack_scalars.specs.declared.NoNumber.TheVariants.{Cut, Other}
+
+-- so many bytes are promised from a place on; or the number of the refusal, and how many bytes settle that
+abbrev pub Size : Type 0
+Size = Result (ℕ × ℕ) (ℕ × ℕ)
 
 -- "A refusal answers its number, with length 0 and an empty record"
 abbrev pub refuse_at : ℕ → OptionalNumber → FrameAnswer
@@ -59,7 +58,7 @@ by_entries s header body =
 
 -- "A missing body counts as an empty map."
 unfoldable pub body_value : Bytes → Read
-body_value [] = Whole 0
+body_value [] = Ok 0
 body_value (b ∷ s) = value max_depth (b ∷ s)
 
 unfoldable pub body_entries : Bytes → ℕ → Bytes → Option (List Entry)
@@ -80,17 +79,17 @@ in_frame s at =
 
 -- 2, 1 and 3 for the size number, each with how many bytes settle it: the first alone, none yet, all of the number
 unfoldable pub size_by : Natural → Size
-size_by Other = Refused 2 1
-size_by Cut = Refused 1 0
-size_by (Is n k) = pick (leb 1 n && leb n max_size) (Promises n k) (Refused 3 k)
+size_by (Err Other) = Err (2, 1)
+size_by (Err Cut) = Err (1, 0)
+size_by (Ok (n, k)) = pick (leb 1 n && leb n max_size) (Ok (n, k)) (Err (3, k))
 
 unfoldable pub size_of : Bytes → Size
 size_of s = size_by (unsigned s)
 
 -- 1 for the bytes that it promises. "Reading takes the first frame of the lent bytes, tells its length and judges nothing after it": the rest is cut off
 unfoldable pub by_size : Bytes → Size → FrameAnswer
-by_size s (Refused n k) = refuse n
-by_size s (Promises n k) = check (refuse 1) (leb (k + n) (length s)) (in_frame (take (k + n) s) k)
+by_size s (Err (n, k)) = refuse n
+by_size s (Ok (n, k)) = check (refuse 1) (leb (k + n) (length s)) (in_frame (take (k + n) s) k)
 
 unfoldable pub frame_read : Bytes → FrameAnswer
 frame_read s = by_size s (size_of s)

@@ -1,11 +1,9 @@
 -- Writing a frame. "In writing: 8, 4 (a place that is outside its bytes, not one whole value, or deeper than 15), 9, 10, 3, 18."
-use Rattle.std.specs.Prelude.{ℕ, Bool, true, false, ◌&&◌, List, [], ◌∷◌, ◌++◌, leb, eqb, length, drop}
+use Rattle.std.specs.Prelude.{ℕ, Bool, true, false, ◌&&◌, List, [], ◌∷◌, ◌++◌, leb, eqb, length, drop, Ok, Err}
 use Rattle.std.proofs.Math.Option.{Option, none, some}
 use Rattle.msgpack_first_bytes.specs.Bytes.{Bytes}
-use Rattle.msgpack_values.specs.Value.{value}
+use Rattle.msgpack_values.specs.Value.{value, Read}
 use Rattle.msgpack_values.specs.Pieces.{joined}
-use Rattle.msgpack_values.specs.declared.Read.{Read}
-use Rattle.msgpack_values.specs.declared.Read.TheVariants.{Whole, Broken}
 use Rattle.msgpack_writing.specs.Forms.{tagged, map_header}
 use Rattle.frames.specs.declared.Frame.{Frame}
 use Rattle.frames.specs.Limits.{max_size, held_depth}
@@ -52,8 +50,8 @@ frame_form c = tagged 0xce 4 (length c) ++ c
 
 -- 4: exactly one whole value, within its bytes, of depth at most 15
 unfoldable pub is_whole : Read → ℕ → Bool
-is_whole (Whole k) n = eqb k n
-is_whole (Broken p) n = false
+is_whole (Ok k) n = eqb k n
+is_whole (Err p) n = false
 
 unfoldable pub sound : Held → Bool
 sound absent = true

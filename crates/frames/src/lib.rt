@@ -76,11 +76,7 @@ pub struct Written {
 }
 
 // What a size number says: so many bytes are promised from a place on, or the number of its refusal and how many bytes settle that.
-#[derive(Clone, Copy)]
-pub enum Size {
-    Promises(usize, usize),
-    Refused(u32, usize),
-}
+pub type Size = Result<(usize, usize), (u32, usize)>;
 
 // What a known key must hold.
 #[derive(Clone, Copy)]

@@ -1,5 +1,5 @@
 -- What a whole value means, and a value read alone.
-use Rattle.std.specs.Prelude.{ℕ, ◌+◌, ◌-◌, eqb, get_or}
+use Rattle.std.specs.Prelude.{ℕ, ◌+◌, ◌-◌, eqb, get_or, Some, None, Ok, Err, Option}
 use Rattle.std.specs.Float.{binary32, binary64}
 use Rattle.std.specs.Float.Ieee.{of_bits}
 use Rattle.msgpack_first_bytes.specs.Bytes.{Bytes, pick}
@@ -9,15 +9,9 @@ use Rattle.msgpack_first_bytes.specs.declared.Kind.TheVariants.{Nil, Boolean, Un
 use Rattle.msgpack_first_bytes.specs.declared.Form.{Form}
 use Rattle.msgpack_first_bytes.specs.declared.Form.TheVariants.{Unused, Scalar, Array, Map}
 use Rattle.msgpack_numbers.specs.Number.{number_at}
-use Rattle.msgpack_values.specs.Value.{value}
+use Rattle.msgpack_values.specs.Value.{value, Read}
 use Rattle.msgpack_values.specs.Spoiled.{no_place, spoiled_at}
-use Rattle.msgpack_numbers.specs.declared.Number.{Number}
-use Rattle.msgpack_numbers.specs.declared.Number.TheVariants.{Is, Missing}
-use Rattle.msgpack_values.specs.declared.Read.{Read}
-use Rattle.msgpack_values.specs.declared.Read.TheVariants.{Whole, Broken}
-use Rattle.msgpack_scalars.specs.Integer.{integer}
-use Rattle.msgpack_scalars.specs.declared.Integer.{Integer}
-use Rattle.msgpack_scalars.specs.declared.Integer.TheVariants.{Is as IsInt, Cut as CutInt, Other as OtherInt}
+use Rattle.msgpack_scalars.specs.Integer.{integer, Integer}
 use Rattle.msgpack_meanings.specs.declared.Meaning.{Meaning}
 use Rattle.msgpack_meanings.specs.declared.Meaning.TheVariants.{
   Absent,
@@ -33,20 +27,21 @@ use Rattle.msgpack_meanings.specs.declared.Meaning.TheVariants.{
   Map as MeansMap,
 }
 use Rattle.msgpack_meanings.specs.declared.Alone.{Alone}
+use Rattle.msgpack_scalars.specs.declared.NoNumber.TheVariants.{Cut, Other}
 
 unfoldable pub of_integer : Integer → Meaning
-of_integer (IsInt z e) = MeansInteger z
-of_integer CutInt = Absent
-of_integer OtherInt = Absent
+of_integer (Ok (z, e)) = MeansInteger z
+of_integer (Err Cut) = Absent
+of_integer (Err Other) = Absent
 
 -- "a float 32 or a float 64 with exactly the bits sent": the float, and the bits beside it, which of a NaN say which
-unfoldable pub of_float32 : Number → Meaning
-of_float32 (Is n) = MeansFloat32 (of_bits binary32 n) n
-of_float32 Missing = Absent
+unfoldable pub of_float32 : Option ℕ → Meaning
+of_float32 (Some n) = MeansFloat32 (of_bits binary32 n) n
+of_float32 None = Absent
 
-unfoldable pub of_float64 : Number → Meaning
-of_float64 (Is n) = MeansFloat64 (of_bits binary64 n) n
-of_float64 Missing = Absent
+unfoldable pub of_float64 : Option ℕ → Meaning
+of_float64 (Some n) = MeansFloat64 (of_bits binary64 n) n
+of_float64 None = Absent
 
 -- an ext's type
 unfoldable pub type_bytes : Kind → ℕ
@@ -77,8 +72,8 @@ alone_depth = 16
 
 -- ".. and nothing past its end is judged." 4: broken, past its bytes, or too deep; then the place of "the first byte that spoils it"
 unfoldable pub alone_by : Read → Bytes → Alone
-alone_by (Whole n) s = record { number = 0; length = n; meaning = meaning (form_of (get_or s 0 0)) s n; place = no_place }
-alone_by (Broken p) s = record { number = 4; length = 0; meaning = Absent; place = spoiled_at alone_depth 0 s }
+alone_by (Ok n) s = record { number = 0; length = n; meaning = meaning (form_of (get_or s 0 0)) s n; place = no_place }
+alone_by (Err p) s = record { number = 4; length = 0; meaning = Absent; place = spoiled_at alone_depth 0 s }
 
 unfoldable pub alone : Bytes → Alone
 alone s = alone_by (value alone_depth s) s

@@ -11,9 +11,8 @@ ghost use Rattle.msgpack_scalars.specs.Integer.{integer};
 ghost use Rattle.msgpack_meanings.specs.Meaning.{of_integer, of_float32, of_float64, type_bytes, scalar_meaning, meaning, alone};
 
 use msgpack_first_bytes::{Form, Kind};
-use msgpack_numbers::Number;
-use msgpack_scalars::{Int, Integer};
-use msgpack_values::{OptionalNumber, Read};
+use msgpack_scalars::{Int, Integer, NoNumber};
+use msgpack_values::OptionalNumber;
 
 // What a value means. A float stands beside its bits, which say which NaN it is. A string, bin or
 // ext by the start and length of its content, a container by those of its whole encoding.
@@ -69,8 +68,8 @@ fn float32_meaning(s: &[u8]) -> Meaning
     ensures { result ≡ of_float32 (number_at 4 1 s.now) }
 {
     match msgpack_numbers::number_at(s, 1, 4) {
-        Number::Is(n) => float32(n as u32),
-        Number::Missing => Meaning::Absent,
+        Some(n) => float32(n as u32),
+        None => Meaning::Absent,
     }
 }
 
@@ -78,8 +77,8 @@ fn float64_meaning(s: &[u8]) -> Meaning
     ensures { result ≡ of_float64 (number_at 8 1 s.now) }
 {
     match msgpack_numbers::number_at(s, 1, 8) {
-        Number::Is(n) => float64(n),
-        Number::Missing => Meaning::Absent,
+        Some(n) => float64(n),
+        None => Meaning::Absent,
     }
 }
 
@@ -87,9 +86,9 @@ fn integer_meaning(s: &[u8]) -> Meaning
     ensures { result ≡ of_integer (integer s.now) }
 {
     match msgpack_scalars::integer_at(s, 0) {
-        Integer::Is(z, _) => Meaning::Integer(z),
-        Integer::Cut => Meaning::Absent,
-        Integer::Other => Meaning::Absent,
+        Ok((z, _)) => Meaning::Integer(z),
+        Err(NoNumber::Cut) => Meaning::Absent,
+        Err(NoNumber::Other) => Meaning::Absent,
     }
 }
 
@@ -114,7 +113,7 @@ fn scalar_meaning(s: &[u8], kind: Kind, width: usize, end: usize) -> Meaning
 
 // What the whole value of `end` bytes at the front means.
 fn meaning_of(s: &[u8], end: usize) -> Meaning
-    requires { value 16 s.now ≡ Read.Whole end }
+    requires { value 16 s.now ≡ Ok end }
     ensures { result ≡ meaning (form_of (get_or s.now 0 0)) s.now end }
 {
     match msgpack_first_bytes::form_of(s[0]) {
@@ -131,13 +130,13 @@ pub fn read_alone(s: &[u8]) -> Alone
 {
     let read = msgpack_values::read_value(s, 0, ALONE_DEPTH);
     match read {
-        Read::Whole(end) => Alone {
+        Ok(end) => Alone {
             number: 0,
             length: end,
             meaning: meaning_of(s, end),
             place: msgpack_values::NO_PLACE,
         },
-        Read::Broken(_) => Alone {
+        Err(_) => Alone {
             number: 4,
             length: 0,
             meaning: Meaning::Absent,

@@ -1,4 +1,5 @@
 -- Big-endian numbers: the sum by powers of 256, a byte at a time, over the width. Assumes nothing.
+use Rattle.std.specs.Prelude.{Some, None}
 use mathlib.Core.Path.{◌≡◌, refl, sym, ◌∙◌}
 use mathlib.Core.Bool.{Bool, true, false, ◌&&◌}
 use mathlib.Core.Logic.{⊎_elim}
@@ -15,7 +16,6 @@ use lib.Arith.{digits_lt}
 use lib.Pow.{pow-add, pow_mono}
 use Rattle.msgpack_first_bytes.specs.Bytes.{Bytes, pick}
 use Rattle.msgpack_numbers.specs.Number.{number, number_at}
-use Rattle.msgpack_numbers.specs.declared.Number.TheVariants.{Is, Missing}
 use Rattle.msgpack_first_bytes.proofs.Logic.{impossible, either}
 
 -- one byte more at the low end
@@ -54,21 +54,21 @@ pub number_step : (s : Bytes) (at i w n m : ℕ) → at + i < length s → w ≡
 number_step s at i w n m h e p q = rw (e, number-next s at i h, ← p) q
 
 -- what the answer of `number_at` says
-pub number_missing : (w at : ℕ) (s : Bytes) → w ≤ 8 → Missing ≡ number_at w at s → length s < at + w
+pub number_missing : (w at : ℕ) (s : Bytes) → w ≤ 8 → None ≡ number_at w at s → length s < at + w
 number_missing w at s h e =
     ⊎_elim (λ l. impossible (let q = simp (le-leb w 8 h, le-leb (at + w) (length s) l) at e in cc)) (λ l. l) (either (at + w) (length s))
 
-pub number_is : (w at n : ℕ) (s : Bytes) → Is n ≡ number_at w at s → (at + w ≤ length s) × (n ≡ number (take w (drop at s)))
+pub number_is : (w at n : ℕ) (s : Bytes) → Some n ≡ number_at w at s → (at + w ≤ length s) × (n ≡ number (take w (drop at s)))
 number_is w at n s e = go (leb w 8) (leb (at + w) (length s)) refl e
   where
-    go : (a b : Bool) → leb (at + w) (length s) ≡ b → Is n ≡ pick (a && b) (Is (number (take w (drop at s)))) Missing
+    go : (a b : Bool) → leb (at + w) (length s) ≡ b → Some n ≡ pick (a && b) (Some (number (take w (drop at s)))) None
         → (at + w ≤ length s) × (n ≡ number (take w (drop at s)))
     go true true q e = (leb-true (at + w) (length s) q, cc)
     go true false q e = impossible cc
     go false b q e = impossible cc
 
 -- bytes that stand anywhere, in every width: their sum by powers of 256
-pub number_there : (s bs t : Bytes) → length bs ≤ 8 → number_at (length bs) (length s) (s ++ (bs ++ t)) ≡ Is (number bs)
+pub number_there : (s bs t : Bytes) → length bs ≤ 8 → number_at (length bs) (length s) (s ++ (bs ++ t)) ≡ Some (number bs)
 number_there s bs t h =
     let l : length s + length bs ≤ length (s ++ (bs ++ t)) = simp length-append (omega arith) in
     simp (le-leb (length bs) 8 h, le-leb (length s + length bs) (length (s ++ (bs ++ t))) l, drop-append_seam, take-append_seam)

@@ -1,4 +1,5 @@
 -- What was written is read back, whatever follows it. Assumes nothing.
+use Rattle.std.specs.Prelude.{Some, Ok}
 use mathlib.Core.Path.{◌≡◌, refl, ap, ◌∙◌}
 use mathlib.Core.List.{List, ◌∷◌, ◌++◌, append_assoc}
 use Prim.Native.Nat.{ℕ, suc, ◌+◌, ◌-◌, ◌*◌, ◌/◌, ◌^◌, ◌<◌, ◌≤◌}
@@ -16,24 +17,17 @@ use Rattle.msgpack_first_bytes.specs.declared.Form.{Form}
 use Rattle.msgpack_first_bytes.specs.declared.Form.TheVariants.{Scalar, Array, Map}
 use Rattle.msgpack_first_bytes.proofs.Forms.{agree, short-map, short-array}
 use Rattle.msgpack_numbers.specs.Number.{number}
-use Rattle.msgpack_values.specs.Value.{shift, payload, sized, items, by_form, one, container, value, inside}
+use Rattle.msgpack_values.specs.Value.{shift, payload, sized, items, by_form, one, container, value, inside, Read}
 use Rattle.msgpack_values.specs.Pieces.{joined, Each}
-use Rattle.msgpack_values.specs.declared.Read.{Read}
-use Rattle.msgpack_values.specs.declared.Read.TheVariants.{Whole}
 use Rattle.msgpack_scalars.proofs.Laws.{doubled}
 use Rattle.msgpack_values.proofs.Laws.{value-one, shift-shift}
 use Rattle.msgpack_values.proofs.Local.{value_good}
 use Rattle.msgpack_values.proofs.Pieces.{items-joined}
 use Rattle.msgpack_scalars.specs.Integer.{due_in, due, natural_of, unsigned_by, unsigned, twos_complement, signed_of, signed_by, signed, adding, integer}
-use Rattle.msgpack_scalars.specs.Start.{string_by, array_by, map_by}
+use Rattle.msgpack_scalars.specs.Start.{string_by, array_by, map_by, Start}
 use Rattle.msgpack_scalars.specs.Header.{counted, header}
-use Rattle.msgpack_scalars.specs.declared.Start.{Start}
-use Rattle.msgpack_scalars.specs.declared.Start.TheVariants.{Here}
-use Rattle.msgpack_scalars.specs.declared.Natural.TheVariants.{Is}
 use Rattle.msgpack_scalars.specs.declared.Int.{Int}
 use Rattle.msgpack_scalars.specs.declared.Int.TheVariants.{FromZero, BelowZero}
-use Rattle.msgpack_scalars.specs.declared.Integer.TheVariants.{Is as IsInt}
-use Rattle.msgpack_scalars.specs.declared.Header.TheVariants.{Is as IsHeader}
 use Rattle.msgpack_writing.specs.Forms.{big_endian, tagged, unsigned_form, negative_form, string_header, string_form, count_header, array_header, map_header}
 use Rattle.msgpack_first_bytes.proofs.Logic.{by_ltb}
 use Rattle.msgpack_writing.proofs.Lengths.{length-big_endian}
@@ -53,7 +47,7 @@ module _ (w x : ℕ) (t : Bytes) where
   unfolding sized
   sized-back next h = rw (le-leb w _ there, digits-back h, drop_at (big_endian w x) t w (length-big_endian w x))
 
-  counted_back : (f : ℕ) → x < 256 ^ w → counted (Here w f) (big_endian w x ++ t) ≡ IsHeader (x + f) (1 + w)
+  counted_back : (f : ℕ) → x < 256 ^ w → counted (Some (w, f)) (big_endian w x ++ t) ≡ Some (x + f, 1 + w)
   unfolding counted
   counted_back f h = rw (le-leb w _ there, digits-back h)
 
@@ -91,29 +85,29 @@ negative_shape m h =
     (λ k. absurd (omega arith))))))
 
 -- what each reader says of such a p
-unsigned_of : {n : ℕ} {p : Bytes} (t : Bytes) → Encodes Unsigned natural_of n p → unsigned (p ++ t) ≡ Is n (length p)
+unsigned_of : {n : ℕ} {p : Bytes} (t : Bytes) → Encodes Unsigned natural_of n p → unsigned (p ++ t) ≡ Ok (n, length p)
 unfolding unsigned unsigned_by due due_in same_kind
 unsigned_of t (encodes b f x e r) = rw (e, le-leb f _ (there f x t), r t, length-big_endian f x, one-add)
 
-negative_of : {z : Int} {p : Bytes} (t : Bytes) → Encodes Signed signed_of z p → integer (p ++ t) ≡ IsInt z (length p)
+negative_of : {z : Int} {p : Bytes} (t : Bytes) → Encodes Signed signed_of z p → integer (p ++ t) ≡ Ok (z, length p)
 unfolding integer adding unsigned unsigned_by signed signed_by due due_in same_kind
 negative_of t (encodes b f x e r) = rw (e, le-leb f _ (there f x t), r t, length-big_endian f x, one-add)
 
 whole_of : {A : Type 0} {kind : Kind} {of : ℕ → Bytes → A} {z : A} {p : Bytes} (d : ℕ) (t : Bytes) → Encodes kind of z p
-    → value d (p ++ t) ≡ Whole (length p)
+    → value d (p ++ t) ≡ Ok (length p)
 unfolding one by_form sized payload number
 whole_of d t (encodes b f x e r) =
     rw (value-one, e, zero-add, le-leb 0 (length (big_endian f x ++ t)) (omega arith), le-leb f _ (there f x t), zero-add, length-big_endian f x, one-add)
 
-pub unsigned_back : (n : ℕ) (t : Bytes) → n < 2 ^ 64 → unsigned (unsigned_form n ++ t) ≡ Is n (length (unsigned_form n))
+pub unsigned_back : (n : ℕ) (t : Bytes) → n < 2 ^ 64 → unsigned (unsigned_form n ++ t) ≡ Ok (n, length (unsigned_form n))
 unsigned_back n t h = unsigned_of t (unsigned_shape n h)
 
-pub integer-back : (z : Int) (t : Bytes) → InRange z → integer (integer_form z ++ t) ≡ IsInt z (length (integer_form z))
+pub integer-back : (z : Int) (t : Bytes) → InRange z → integer (integer_form z ++ t) ≡ Ok (z, length (integer_form z))
 unfolding integer adding
 integer-back (FromZero n) t h = rw (unsigned_back n t h)
 integer-back (BelowZero m) t h = negative_of t (negative_shape m h)
 
-pub integer-whole : (d : ℕ) (z : Int) (t : Bytes) → InRange z → value d (integer_form z ++ t) ≡ Whole (length (integer_form z))
+pub integer-whole : (d : ℕ) (z : Int) (t : Bytes) → InRange z → value d (integer_form z ++ t) ≡ Ok (length (integer_form z))
 integer-whole d (FromZero n) t h = whole_of d t (unsigned_shape n h)
 integer-whole d (BelowZero m) t h = whole_of d t (negative_shape m h)
 
@@ -150,19 +144,19 @@ map_shape : (n : ℕ) → n < 2 ^ 32 → Counts MapOf n (map_header n)
 unfolding map_header form_of
 map_shape n = count_shape MapOf 0x80 0xde n (λ k. short-map {b = 0x80 + n} (omega arith) (omega arith) ∙ ap (Map 0) (omega arith)) refl refl
 
-header_of : (by : Form → Start) {form : ℕ → ℕ → Form} {n : ℕ} {p : Bytes} (t : Bytes) → ((w f : ℕ) → by (form w f) ≡ Here w f)
-    → Counts form n p → header by (p ++ t) ≡ IsHeader n (length p)
+header_of : (by : Form → Start) {form : ℕ → ℕ → Form} {n : ℕ} {p : Bytes} (t : Bytes) → ((w f : ℕ) → by (form w f) ≡ Some (w, f))
+    → Counts form n p → header by (p ++ t) ≡ Some (n, length p)
 unfolding header
 header_of by t r (counts b w f x e h s) = rw (e, r w f, counted_back w x t f h, s, length-big_endian w x, one-add)
 
-string-header-back : (n : ℕ) (t : Bytes) → n < 2 ^ 32 → header string_by (string_header n ++ t) ≡ IsHeader n (length (string_header n))
+string-header-back : (n : ℕ) (t : Bytes) → n < 2 ^ 32 → header string_by (string_header n ++ t) ≡ Some (n, length (string_header n))
 unfolding same_kind
 string-header-back n t h = header_of string_by t (λ w f. refl) (string_shape n h)
 
-pub array-header-back : (n : ℕ) (t : Bytes) → n < 2 ^ 32 → header array_by (array_header n ++ t) ≡ IsHeader n (length (array_header n))
+pub array-header-back : (n : ℕ) (t : Bytes) → n < 2 ^ 32 → header array_by (array_header n ++ t) ≡ Some (n, length (array_header n))
 array-header-back n t h = header_of array_by t (λ w f. refl) (array_shape n h)
 
-pub map-header-back : (n : ℕ) (t : Bytes) → n < 2 ^ 32 → header map_by (map_header n ++ t) ≡ IsHeader n (length (map_header n))
+pub map-header-back : (n : ℕ) (t : Bytes) → n < 2 ^ 32 → header map_by (map_header n ++ t) ≡ Some (n, length (map_header n))
 map-header-back n t h = header_of map_by t (λ w f. let e : 2 * f / 2 ≡ f = omega arith in rw e) (map_shape n h)
 
 -- a header, and then what is due after it
@@ -194,24 +188,24 @@ module _ (d : ℕ) (t : Bytes) where
 
 -- ---- a header followed by its content is one whole value
 
-completed : (v : Bytes → Read) (h c t : Bytes) (due : Read) → v (h ++ (c ++ t)) ≡ shift (length h) due → due ≡ Whole (length c)
-    → v ((h ++ c) ++ t) ≡ Whole (length (h ++ c))
+completed : (v : Bytes → Read) (h c t : Bytes) (due : Read) → v (h ++ (c ++ t)) ≡ shift (length h) due → due ≡ Ok (length c)
+    → v ((h ++ c) ++ t) ≡ Ok (length (h ++ c))
 completed v h c t due e f = rw (append_assoc, e, f, length-append)
 
-payload-whole : (s t : Bytes) → payload (length s) (s ++ t) ≡ Whole (length s)
+payload-whole : (s t : Bytes) → payload (length s) (s ++ t) ≡ Ok (length s)
 unfolding payload
 payload-whole s t = rw (le-leb (length s) (length (s ++ t)) (rw length-append (omega arith)))
 
-pub string-whole : (d : ℕ) (s t : Bytes) → length s < 2 ^ 32 → value d (string_form s ++ t) ≡ Whole (length (string_form s))
+pub string-whole : (d : ℕ) (s t : Bytes) → length s < 2 ^ 32 → value d (string_form s ++ t) ≡ Ok (length (string_form s))
 string-whole d s t h = completed (value d) (string_header (length s)) s t _ (string-begun d (s ++ t) (length s) h) (payload-whole s t)
 
 module _ (d n : ℕ) (fs : List Bytes) (t : Bytes) (e : Each (value d) fs) where
-  array_whole : length fs ≡ n → n < 2 ^ 32 → value (suc d) ((array_header n ++ joined fs) ++ t) ≡ Whole (length (array_header n ++ joined fs))
+  array_whole : length fs ≡ n → n < 2 ^ 32 → value (suc d) ((array_header n ++ joined fs) ++ t) ≡ Ok (length (array_header n ++ joined fs))
   array_whole l h =
       completed (value (suc d)) (array_header n) (joined fs) t _ (array-begun d (joined fs ++ t) n h)
       (rw l at (items-joined (value d) (value_good d) e t).0)
 
-  pub map_whole : length fs ≡ 2 * n → n < 2 ^ 32 → value (suc d) ((map_header n ++ joined fs) ++ t) ≡ Whole (length (map_header n ++ joined fs))
+  pub map_whole : length fs ≡ 2 * n → n < 2 ^ 32 → value (suc d) ((map_header n ++ joined fs) ++ t) ≡ Ok (length (map_header n ++ joined fs))
   map_whole l h =
       completed (value (suc d)) (map_header n) (joined fs) t _ (map-begun d (joined fs ++ t) n h)
       (rw l at (items-joined (value d) (value_good d) e t).0)

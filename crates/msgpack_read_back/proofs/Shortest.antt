@@ -1,5 +1,6 @@
 -- No form that is read as a number, a length or a count is shorter than the form that is written: a larger number has no shorter form,
 -- and the greatest number that a first byte can say has one that is no longer; that is one test over all first bytes. Assumes nothing.
+use Rattle.std.specs.Prelude.{Some, None, Ok, Err}
 use mathlib.Core.Path.{◌≡◌, refl}
 use mathlib.Core.Bool.{Bool, true}
 use mathlib.Core.List.{[], ◌∷◌}
@@ -15,36 +16,30 @@ use Rattle.msgpack_first_bytes.specs.declared.Form.{Form}
 use Rattle.msgpack_first_bytes.proofs.Logic.{impossible, by_leb, by_ltb}
 use Rattle.msgpack_first_bytes.proofs.Range.{both, both_left, both_right, all, all-at}
 use Rattle.msgpack_numbers.specs.Number.{number}
-use Rattle.msgpack_scalars.specs.Start.{scalar_of, string_by, array_by, map_by}
-use Rattle.msgpack_scalars.specs.Integer.{due_in, due, natural_of, unsigned_by, unsigned, twos_complement, signed_of, signed_by, signed, adding, integer}
-use Rattle.msgpack_scalars.specs.Header.{counted, header}
-use Rattle.msgpack_scalars.specs.declared.Start.{Start}
-use Rattle.msgpack_scalars.specs.declared.Start.TheVariants.{Here, Elsewhere}
-use Rattle.msgpack_scalars.specs.declared.Due.{Due}
-use Rattle.msgpack_scalars.specs.declared.Due.TheVariants.{More, Cut as CutDue, Other as OtherDue}
+use Rattle.msgpack_scalars.specs.Start.{scalar_of, string_by, array_by, map_by, Start}
+use Rattle.msgpack_scalars.specs.Integer.{due_in, due, natural_of, unsigned_by, unsigned, twos_complement, signed_of, signed_by, signed, adding, integer, Due}
+use Rattle.msgpack_scalars.specs.Header.{counted, header, Header}
 use Rattle.msgpack_scalars.specs.declared.Int.{Int}
 use Rattle.msgpack_scalars.specs.declared.Int.TheVariants.{FromZero}
-use Rattle.msgpack_scalars.specs.declared.Integer.TheVariants.{Is as IsInt}
-use Rattle.msgpack_scalars.specs.declared.Header.{Header}
-use Rattle.msgpack_scalars.specs.declared.Header.TheVariants.{Is as IsHeader}
 use Rattle.msgpack_writing.specs.Forms.{big_endian, unsigned_form, negative_form, string_header, array_header, map_header}
 use Rattle.msgpack_writing.proofs.Lengths.{unsigned_mono, negative_mono, string_mono, array_mono, map_mono}
 use Rattle.msgpack_read_back.specs.Claims.{Octets, integer_form, Shortest}
 use Rattle.msgpack_read_back.proofs.Digits.{number-take}
+use Rattle.msgpack_scalars.specs.declared.NoNumber.TheVariants.{Cut, Other}
 
 -- ---- headers
 
 -- the form of the greatest number that a start says is no longer than the start
 abbrev header_test : (ℕ → Bytes) → Start → Bool
-header_test form (Here w f) = leb (length (form (256 ^ w - 1 + f))) (1 + w)
-header_test form Elsewhere = true
+header_test form (Some (w, f)) = leb (length (form (256 ^ w - 1 + f))) (1 + w)
+header_test form None = true
 
 module _ (form : ℕ → Bytes) (mono : (n m : ℕ) → n ≤ m → length (form n) ≤ length (form m)) where
-  counted-short : (x : Start) → T (header_test form x) → (s : Bytes) → Octets s → (n k : ℕ) → counted x s ≡ IsHeader n k → length (form n) ≤ k
+  counted-short : (x : Start) → T (header_test form x) → (s : Bytes) → Octets s → (n k : ℕ) → counted x s ≡ Some (n, k) → length (form n) ≤ k
   unfolding counted
-  counted-short (Here w f) t s o n k e = by_leb (λ (h : Header). h ≡ IsHeader n k → length (form n) ≤ k) w (length s) fits (λ _ q. impossible cc) e
+  counted-short (Some (w, f)) t s o n k e = by_leb (λ (h : Header). h ≡ Some (n, k) → length (form n) ≤ k) w (length s) fits (λ _ q. impossible cc) e
     where
-      fits : w ≤ length s → IsHeader (number (take w s) + f) (1 + w) ≡ IsHeader n k → length (form n) ≤ k
+      fits : w ≤ length s → Some (number (take w s) + f, 1 + w) ≡ Some (n, k) → length (form n) ≤ k
       fits h q =
           let en : number (take w s) + f ≡ n = cc in
           let ek : 1 + w ≡ k = cc in
@@ -52,10 +47,10 @@ module _ (form : ℕ → Bytes) (mono : (n m : ℕ) → n ≤ m → length (form
           let m : length (form n) ≤ length (form (256 ^ w - 1 + f)) = mono n (256 ^ w - 1 + f) (omega arith) in
           let l : length (form (256 ^ w - 1 + f)) ≤ 1 + w = leb→le _ _ t in
           omega arith
-  counted-short Elsewhere t s o n k e = impossible cc
+  counted-short None t s o n k e = impossible cc
 
   header-short : (by : Form → Start) → T (all (λ b. header_test form (by (form_of b))) 0 256) → (s : Bytes) → Octets s → (n k : ℕ)
-      → header by s ≡ IsHeader n k → length (form n) ≤ k
+      → header by s ≡ Some (n, k) → length (form n) ≤ k
   unfolding header
   header-short by t [] o n k e = impossible cc
   header-short by t (b ∷ s) o n k e =
@@ -68,22 +63,22 @@ abbrev Short : (ℕ → Bytes → Int) → ℕ → ℕ → Type 0
 Short of b f = (s : Bytes) → Octets s → f ≤ length s → length (integer_form (of f (b ∷ s))) ≤ 1 + f
 
 abbrev start_test : (ℕ → ℕ → Bool) → ℕ → Start → Bool
-start_test test b (Here w f) = test b f
-start_test test b Elsewhere = true
+start_test test b (Some (w, f)) = test b f
+start_test test b None = true
 
 number_short : (kind : Kind) (of : ℕ → Bytes → Int) (test : ℕ → ℕ → Bool) → ((b f : ℕ) → T (test b f) → Short of b f)
-    → T (all (λ b. start_test test b (scalar_of kind (form_of b))) 0 256) → (s : Bytes) → Octets s → (f : ℕ) → due kind s ≡ More f
+    → T (all (λ b. start_test test b (scalar_of kind (form_of b))) 0 256) → (s : Bytes) → Octets s → (f : ℕ) → due kind s ≡ Ok f
     → length (integer_form (of f s)) ≤ 1 + f
 unfolding due due_in
 number_short kind of test h t [] o f e = impossible cc
 number_short kind of test h t (b ∷ s) o f e =
     go (scalar_of kind (form_of b)) (all-at (λ b. start_test test b (scalar_of kind (form_of b))) 0 256 t (o 0) (omega arith)) e
   where
-    go : (x : Start) → T (start_test test b x) → due_in x s ≡ More f → length (integer_form (of f (b ∷ s))) ≤ 1 + f
-    go (Here w g) t e =
-        by_leb (λ (d : Due). d ≡ More f → length (integer_form (of f (b ∷ s))) ≤ 1 + f) g (length s)
+    go : (x : Start) → T (start_test test b x) → due_in x s ≡ Ok f → length (integer_form (of f (b ∷ s))) ≤ 1 + f
+    go (Some (w, g)) t e =
+        by_leb (λ (d : Due). d ≡ Ok f → length (integer_form (of f (b ∷ s))) ≤ 1 + f) g (length s)
         (λ l q. let i : g ≡ f = cc in rw (← i) (h b g t s (λ i. o (suc i)) l)) (λ _ q. impossible cc) e
-    go Elsewhere t e = impossible cc
+    go None t e = impossible cc
 
 -- the greatest number that a first byte b and f bytes say
 abbrev most : ℕ → ℕ → ℕ
@@ -133,22 +128,22 @@ signed-short b (suc f) t s o h =
     (λ k. let m = negative_mono (2 ^ (8 * suc f) - 1 - n) (bottom (suc f)) (omega arith) (omega arith) in omega arith)
 
 -- in every form that is read as an integer, the signed ones of numbers from 0 up too
-integer_shortest : (s : Bytes) → Octets s → (z : Int) (k : ℕ) → integer s ≡ IsInt z k → length (integer_form z) ≤ k
+integer_shortest : (s : Bytes) → Octets s → (z : Int) (k : ℕ) → integer s ≡ Ok (z, k) → length (integer_form z) ≤ k
 unfolding integer adding unsigned unsigned_by signed signed_by same_kind form_of unsigned_form negative_form big_endian
 integer_shortest s o z k e = go (due Unsigned s) refl (due Signed s) refl e
   where
-    go : (d : Due) → due Unsigned s ≡ d → (c : Due) → due Signed s ≡ c → adding (unsigned_by d s) (signed_by c s) ≡ IsInt z k → length (integer_form z) ≤ k
-    go (More f) q c r e =
+    go : (d : Due) → due Unsigned s ≡ d → (c : Due) → due Signed s ≡ c → adding (unsigned_by d s) (signed_by c s) ≡ Ok (z, k) → length (integer_form z) ≤ k
+    go (Ok f) q c r e =
         let ez : FromZero (natural_of f s) ≡ z = cc in
         let ek : 1 + f ≡ k = cc in
         rw (← ez, ← ek) (number_short Unsigned (λ f s. FromZero (natural_of f s)) unsigned_test unsigned-short tt s o f q)
-    go CutDue q c r e = impossible cc
-    go OtherDue q (More f) r e =
+    go (Err Cut) q c r e = impossible cc
+    go (Err Other) q (Ok f) r e =
         let ez : signed_of f s ≡ z = cc in
         let ek : 1 + f ≡ k = cc in
         rw (← ez, ← ek) (number_short Signed signed_of signed_test signed-short tt s o f r)
-    go OtherDue q CutDue r e = impossible cc
-    go OtherDue q OtherDue r e = impossible cc
+    go (Err Other) q (Err Cut) r e = impossible cc
+    go (Err Other) q (Err Other) r e = impossible cc
 
 pub shortest : Shortest
 unfolding same_kind form_of string_header array_header map_header big_endian

@@ -1,4 +1,5 @@
 -- What each step of reading a number or a header says of the definition. Assumes nothing.
+use Rattle.std.specs.Prelude.{Some, None, Ok, Err}
 use mathlib.Core.Path.{◌≡◌, refl, ap, ◌∙◌}
 use mathlib.Core.List.{[], ◌∷◌}
 use mathlib.Core.Bool.{Bool, true}
@@ -18,33 +19,25 @@ use Rattle.msgpack_first_bytes.proofs.Logic.{impossible, by_leb}
 use Rattle.msgpack_first_bytes.proofs.Range.{both, both_left, both_right, all}
 use Rattle.msgpack_first_bytes.proofs.Forms.{each_form}
 use Rattle.msgpack_numbers.specs.Number.{number, number_at}
-use Rattle.msgpack_numbers.specs.declared.Number.TheVariants.{Is as IsNumber, Missing}
 use Rattle.msgpack_numbers.proofs.Big.{number_missing, number_is}
-use Rattle.msgpack_scalars.specs.Start.{scalar_of, string_by, array_by, map_by, start_by, Few}
-use Rattle.msgpack_scalars.specs.Integer.{due_in, due, natural_of, twos_complement, signed_of, adding, shift_natural, shift_integer}
+use Rattle.msgpack_scalars.specs.Start.{scalar_of, string_by, array_by, map_by, start_by, Few, Start}
+use Rattle.msgpack_scalars.specs.Integer.{due_in, due, natural_of, twos_complement, signed_of, adding, shift_natural, shift_integer, Natural, Integer, Due}
 use Rattle.msgpack_scalars.specs.Header.{counted, header, shift_header}
 use Rattle.msgpack_scalars.specs.declared.Opening.{Opening}
 use Rattle.msgpack_scalars.specs.declared.Opening.TheVariants.{String as Strings, Array as Arrays, Map as Maps}
-use Rattle.msgpack_scalars.specs.declared.Start.{Start}
-use Rattle.msgpack_scalars.specs.declared.Start.TheVariants.{Here, Elsewhere}
 use Rattle.msgpack_scalars.specs.declared.Int.TheVariants.{FromZero, BelowZero}
-use Rattle.msgpack_scalars.specs.declared.Natural.{Natural}
-use Rattle.msgpack_scalars.specs.declared.Natural.TheVariants.{Is as IsNat, Cut as CutNat, Other as OtherNat}
-use Rattle.msgpack_scalars.specs.declared.Integer.{Integer}
-use Rattle.msgpack_scalars.specs.declared.Due.{Due}
-use Rattle.msgpack_scalars.specs.declared.Due.TheVariants.{More, Cut}
-use Rattle.msgpack_scalars.specs.declared.Header.TheVariants.{Is as IsHeader, Other as OtherHeader}
+use Rattle.msgpack_scalars.specs.declared.NoNumber.TheVariants.{Cut, Other}
 
 -- ---- what a first byte asks for is little: one test over all 256 for each kind of start
 
 unfoldable pub little : ℕ → Start → Bool
-little most (Here w f) = both (leb w 4) (leb f most)
-little most Elsewhere = true
+little most (Some (w, f)) = both (leb w 4) (leb f most)
+little most None = true
 
 is-few : (most : ℕ) (x : Start) → T (little most x) → Few most x
 unfolding little
-is-few most (Here w f) t = (leb→le w 4 (both_left (leb w 4) (leb f most) t), leb→le f most (both_right (leb w 4) (leb f most) t))
-is-few most Elsewhere t = tt
+is-few most (Some (w, f)) t = (leb→le w 4 (both_left (leb w 4) (leb f most) t), leb→le f most (both_right (leb w 4) (leb f most) t))
+is-few most None t = tt
 
 pub few : (by : Form → Start) (most : ℕ) → T (all (λ b. little most (by (form_of b))) 0 256) → (b : ℕ) → Few most (by (form_of b))
 few by most t b = is-few most (by (form_of b)) (each_form (λ h. little most (by h)) t b)
@@ -57,7 +50,7 @@ start-few Maps = few map_by 31 tt
 
 -- ---- numbers
 
-pub due_end : (k : Kind) (s : Bytes) (at : ℕ) → length s ≤ at → Cut ≡ due k (drop at s)
+pub due_end : (k : Kind) (s : Bytes) (at : ℕ) → length s ≤ at → Err Cut ≡ due k (drop at s)
 unfolding due
 due_end k s at h = rw (drop_of_length-le s h)
 
@@ -66,13 +59,13 @@ pub due-start : (k : Kind) (s : Bytes) (at : ℕ) (x : Start) → at < length s 
 unfolding due
 due-start k s at x h e = rw (e, add-one, drop-cons s at 0 h)
 
-pub due-cut : (s : Bytes) (at w f : ℕ) → length s - at ≤ f → at < length s → Cut ≡ due_in (Here w f) (drop (at + 1) s)
+pub due-cut : (s : Bytes) (at w f : ℕ) → length s - at ≤ f → at < length s → Err Cut ≡ due_in (Some (w, f)) (drop (at + 1) s)
 unfolding due_in
 due-cut s at w f k h =
     let l : length (drop (at + 1) s) < f = simp length-drop (omega arith) in
     rw (lt-leb f (length (drop (at + 1) s)) l)
 
-pub due-more : (s : Bytes) (at w f : ℕ) → f < length s - at → More f ≡ due_in (Here w f) (drop (at + 1) s)
+pub due-more : (s : Bytes) (at w f : ℕ) → f < length s - at → Ok f ≡ due_in (Some (w, f)) (drop (at + 1) s)
 unfolding due_in
 due-more s at w f k =
     let l : f ≤ length (drop (at + 1) s) = simp length-drop (omega arith) in
@@ -80,27 +73,27 @@ due-more s at w f k =
 
 -- of a kind that asks for little, what is due is there
 module _ (k : Kind) (t : T (all (λ b. little 8 (scalar_of k (form_of b))) 0 256)) where
-  due-few : (f : ℕ) (s : Bytes) → More f ≡ due k s → (f ≤ 8) × (1 + f ≤ length s)
+  due-few : (f : ℕ) (s : Bytes) → Ok f ≡ due k s → (f ≤ 8) × (1 + f ≤ length s)
   unfolding due due_in
   due-few f [] e = impossible cc
   due-few f (b ∷ s) e = go (scalar_of k (form_of b)) (few (scalar_of k) 8 t b) e
     where
-      go : (x : Start) → Few 8 x → More f ≡ due_in x s → (f ≤ 8) × (1 + f ≤ suc (length s))
-      go (Here w g) m e =
-          by_leb (λ (d : Due). More f ≡ d → (f ≤ 8) × (1 + f ≤ suc (length s))) g (length s) (λ l q. let i : f ≡ g = cc in (omega arith, omega arith)) (λ l q. impossible cc) e
-      go Elsewhere m e = impossible cc
+      go : (x : Start) → Few 8 x → Ok f ≡ due_in x s → (f ≤ 8) × (1 + f ≤ suc (length s))
+      go (Some (w, g)) m e =
+          by_leb (λ (d : Due). Ok f ≡ d → (f ≤ 8) × (1 + f ≤ suc (length s))) g (length s) (λ l q. let i : f ≡ g = cc in (omega arith, omega arith)) (λ l q. impossible cc) e
+      go None m e = impossible cc
 
-  pub due_there : (s : Bytes) (at f : ℕ) → More f ≡ due k (drop at s) → (f ≤ 8) × (at + (1 + f) ≤ length s)
+  pub due_there : (s : Bytes) (at f : ℕ) → Ok f ≡ due k (drop at s) → (f ≤ 8) × (at + (1 + f) ≤ length s)
   due_there s at f e =
       let r = due-few f (drop at s) e in
       let l = simp length-drop at r.1 in
       (r.0, omega arith)
 
 -- the number after a first byte is there, and is the one defined
-pub natural_there : (s : Bytes) (at f : ℕ) → f ≤ 8 → at + 1 + f ≤ length s → Missing ≡ number_at f (at + 1) s → ⊥
+pub natural_there : (s : Bytes) (at f : ℕ) → f ≤ 8 → at + 1 + f ≤ length s → None ≡ number_at f (at + 1) s → ⊥
 natural_there s at f h l e = omega (arith, number_missing f (at + 1) s h e)
 
-pub natural-more : (s : Bytes) (at f n : ℕ) → 0 < f → IsNumber n ≡ number_at f (at + 1) s → n ≡ natural_of f (drop at s)
+pub natural-more : (s : Bytes) (at f n : ℕ) → 0 < f → Some n ≡ number_at f (at + 1) s → n ≡ natural_of f (drop at s)
 unfolding natural_of
 natural-more s at zero n h e = absurd (omega arith)
 natural-more s at (suc f) n h e = (number_is (suc f) (at + 1) n s e).1 ∙ rw drop-drop
@@ -131,9 +124,9 @@ signed_high s (suc f) n h k e g l b =
 -- an integer counted from `at` before, by the unsigned number counted so
 pub adding-shift : (at : ℕ) (u : Natural) (z : Integer) → shift_integer at (adding u z) ≡ adding (shift_natural at u) (shift_integer at z)
 unfolding adding
-adding-shift at (IsNat m f) z = refl
-adding-shift at CutNat z = refl
-adding-shift at OtherNat z = refl
+adding-shift at (Ok (m, f)) z = refl
+adding-shift at (Err Cut) z = refl
+adding-shift at (Err Other) z = refl
 
 -- ---- headers
 
@@ -141,14 +134,14 @@ pub header-start : (by : Form → Start) (s : Bytes) (at : ℕ) → at < length 
 unfolding header
 header-start by s at h = rw (add-one, drop-cons s at 0 h)
 
-pub counted-cut : (s : Bytes) (at w f : ℕ) → length s < at + 1 + w → at < length s → OtherHeader ≡ shift_header at (counted (Here w f) (drop (at + 1) s))
+pub counted-cut : (s : Bytes) (at w f : ℕ) → length s < at + 1 + w → at < length s → None ≡ shift_header at (counted (Some (w, f)) (drop (at + 1) s))
 unfolding counted
 counted-cut s at w f h k =
     let l : length (drop (at + 1) s) < w = simp length-drop (omega arith) in
     rw (lt-leb w (length (drop (at + 1) s)) l)
 
 pub counted_is : (s : Bytes) (at w f n : ℕ) → at + 1 + w ≤ length s → n ≡ number (take w (drop (at + 1) s))
-    → IsHeader (n + f) (at + (1 + w)) ≡ shift_header at (counted (Here w f) (drop (at + 1) s))
+    → Some (n + f, at + (1 + w)) ≡ shift_header at (counted (Some (w, f)) (drop (at + 1) s))
 unfolding counted
 counted_is s at w f n h e =
     let l : w ≤ length (drop (at + 1) s) = simp length-drop (omega arith) in

@@ -1,4 +1,5 @@
 -- An unsigned number is known by its own bytes, nine at most, whatever follows them. Assumes nothing.
+use Rattle.std.specs.Prelude.{Some, None, Ok, Err}
 use mathlib.Core.Path.{◌≡◌, refl, ap, ◌∙◌}
 use mathlib.Core.List.{[], ◌∷◌, ◌++◌}
 use Prim.Native.Nat.{ℕ, zero, suc, ◌+◌, ◌<◌, ◌≤◌}
@@ -11,14 +12,10 @@ use Rattle.msgpack_first_bytes.specs.FirstByte.{form_of, same_kind}
 use Rattle.msgpack_first_bytes.specs.declared.Kind.TheVariants.{Unsigned}
 use Rattle.msgpack_first_bytes.proofs.Logic.{by_leb}
 use Rattle.msgpack_numbers.specs.Number.{number}
-use Rattle.msgpack_scalars.specs.Start.{scalar_of, Few}
-use Rattle.msgpack_scalars.specs.Integer.{due_in, due, natural_of, unsigned_by, unsigned}
-use Rattle.msgpack_scalars.specs.declared.Start.{Start}
-use Rattle.msgpack_scalars.specs.declared.Start.TheVariants.{Here, Elsewhere}
-use Rattle.msgpack_scalars.specs.declared.Due.{Due}
-use Rattle.msgpack_scalars.specs.declared.Natural.{Natural}
-use Rattle.msgpack_scalars.specs.declared.Natural.TheVariants.{Is, Cut, Other}
+use Rattle.msgpack_scalars.specs.Start.{scalar_of, Few, Start}
+use Rattle.msgpack_scalars.specs.Integer.{due_in, due, natural_of, unsigned_by, unsigned, Due, Natural}
 use Rattle.msgpack_scalars.proofs.Laws.{little, few}
+use Rattle.msgpack_scalars.specs.declared.NoNumber.TheVariants.{Cut, Other}
 
 -- what `read` finds at the front of s is told by k bytes, whatever follows them, and by no fewer: of those it says `early`
 pub record Known {A : Type 0} (read : Bytes → A) (early : A) (most : ℕ) (s : Bytes) (k : ℕ) (a : A) : Type 0 where
@@ -35,9 +32,9 @@ known_by f o = record { some = o.some; few = o.few; inside = o.inside; local = �
 
 -- of an unsigned number: its own bytes, or the first byte of something else; where bytes are missing there are few
 abbrev pub Own : Bytes → Natural → Type 0
-Own s (Is n k) = Known unsigned Cut 9 s k (Is n k)
-Own s Cut = length s ≤ 8
-Own s Other = Known unsigned Cut 9 s 1 Other
+Own s (Ok (n, k)) = Known unsigned (Err Cut) 9 s k (Ok (n, k))
+Own s (Err Cut) = length s ≤ 8
+Own s (Err Other) = Known unsigned (Err Cut) 9 s 1 (Err Other)
 
 -- a first byte asks for eight bytes at most
 asks : (b : ℕ) → Few 8 (scalar_of Unsigned (form_of b))
@@ -45,8 +42,8 @@ unfolding little form_of same_kind
 asks = few (scalar_of Unsigned) 8 tt
 
 -- a first byte and those that are due after it
-module _ (b w f : ℕ) (e : scalar_of Unsigned (form_of b) ≡ Here w f) where
-  there : (t : Bytes) → f ≤ length t → unsigned (b ∷ t) ≡ Is (natural_of f (b ∷ t)) (1 + f)
+module _ (b w f : ℕ) (e : scalar_of Unsigned (form_of b) ≡ Some (w, f)) where
+  there : (t : Bytes) → f ≤ length t → unsigned (b ∷ t) ≡ Ok (natural_of f (b ∷ t), 1 + f)
   unfolding unsigned unsigned_by due due_in
   there t h = rw (e, le-leb f (length t) h)
 
@@ -55,14 +52,14 @@ module _ (b w f : ℕ) (e : scalar_of Unsigned (form_of b) ≡ Here w f) where
   same zero t u h = refl
   same (suc f) t u h = ap number (take_at (take (suc f) t) u (suc f) (length-take-le (suc f) t h))
 
-  own : (t : Bytes) → f ≤ length t → (u : Bytes) → unsigned (take (1 + f) (b ∷ t) ++ u) ≡ Is (natural_of f (b ∷ t)) (1 + f)
+  own : (t : Bytes) → f ≤ length t → (u : Bytes) → unsigned (take (1 + f) (b ∷ t) ++ u) ≡ Ok (natural_of f (b ∷ t), 1 + f)
   own t h u =
       let e : 1 + f ≡ suc f = omega arith in
       let l = length-take-le f t h in
       let m : f ≤ length (take f t ++ u) = simp length-append (omega arith) in
-      ap (λ (k : ℕ). unsigned (take k (b ∷ t) ++ u)) e ∙ there (take f t ++ u) m ∙ ap (λ (n : ℕ). Is n (1 + f)) (same f t u h)
+      ap (λ (k : ℕ). unsigned (take k (b ∷ t) ++ u)) e ∙ there (take f t ++ u) m ∙ ap (λ (n : ℕ). Ok (n, 1 + f)) (same f t u h)
 
-  sooner : (t : Bytes) (j : ℕ) → j < 1 + f → unsigned (take j (b ∷ t)) ≡ Cut
+  sooner : (t : Bytes) (j : ℕ) → j < 1 + f → unsigned (take j (b ∷ t)) ≡ Err Cut
   unfolding unsigned unsigned_by due due_in
   sooner t zero h = refl
   sooner t (suc i) h =
@@ -74,13 +71,13 @@ unfolding unsigned unsigned_by due due_in
 unsigned-own [] = omega arith
 unsigned-own (b ∷ t) = go (scalar_of Unsigned (form_of b)) refl (asks b)
   where
-    none : (j : ℕ) → j < 1 → unsigned (take j (b ∷ t)) ≡ Cut
+    none : (j : ℕ) → j < 1 → unsigned (take j (b ∷ t)) ≡ Err Cut
     none zero h = refl
     none (suc j) h = absurd (omega arith)
 
     go : (x : Start) → scalar_of Unsigned (form_of b) ≡ x → Few 8 x → Own (b ∷ t) (unsigned_by (due_in x t) (b ∷ t))
-    go (Here w f) e m =
+    go (Some (w, f)) e m =
         by_leb (λ (d : Due). Own (b ∷ t) (unsigned_by d (b ∷ t))) f (length t)
         (λ h. record { some = omega arith; few = omega arith; inside = omega arith; local = own b w f e t h; sooner = sooner b w f e t })
         (λ h. omega arith)
-    go Elsewhere e m = record { some = omega arith; few = omega arith; inside = omega arith; local = λ u. rw e; sooner = none }
+    go None e m = record { some = omega arith; few = omega arith; inside = omega arith; local = λ u. rw e; sooner = none }

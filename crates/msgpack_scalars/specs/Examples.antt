@@ -1,31 +1,24 @@
 -- Which first bytes start an unsigned number and an integer, computed over all 256; and worked cases.
-use Rattle.std.specs.Prelude.{ℕ, zero, suc, Bool, true, false, ◌&&◌, ◌||◌, List, [], ◌∷◌, map, ◌≡◌, refl, leb}
+use Rattle.std.specs.Prelude.{ℕ, zero, suc, Bool, true, false, ◌&&◌, ◌||◌, List, [], ◌∷◌, map, ◌≡◌, refl, leb, Some, None, Ok, Err}
 use Rattle.msgpack_first_bytes.specs.Bytes.{Bytes}
 use Rattle.msgpack_first_bytes.specs.FirstByte.{form_of, same_kind}
 use Rattle.msgpack_numbers.specs.Number.{number}
 use Rattle.msgpack_first_bytes.specs.declared.Kind.TheVariants.{Unsigned, Signed}
-use Rattle.msgpack_scalars.specs.Start.{scalar_of, start_by}
-use Rattle.msgpack_scalars.specs.Integer.{due_in, due, natural_of, unsigned_by, unsigned, twos_complement, signed_of, signed_by, signed, adding, integer}
-use Rattle.msgpack_scalars.specs.Header.{counted, header}
-use Rattle.msgpack_scalars.specs.declared.Start.{Start}
-use Rattle.msgpack_scalars.specs.declared.Start.TheVariants.{Here, Elsewhere}
-use Rattle.msgpack_scalars.specs.declared.Natural.{Natural}
-use Rattle.msgpack_scalars.specs.declared.Natural.TheVariants.{Is, Cut, Other}
+use Rattle.msgpack_scalars.specs.Start.{scalar_of, start_by, Start}
+use Rattle.msgpack_scalars.specs.Integer.{due_in, due, natural_of, unsigned_by, unsigned, twos_complement, signed_of, signed_by, signed, adding, integer, Natural, Integer}
+use Rattle.msgpack_scalars.specs.Header.{counted, header, Header}
 use Rattle.msgpack_scalars.specs.declared.Int.TheVariants.{FromZero, BelowZero}
-use Rattle.msgpack_scalars.specs.declared.Integer.{Integer}
-use Rattle.msgpack_scalars.specs.declared.Integer.TheVariants.{Is as IsInt, Cut as CutInt, Other as OtherInt}
 use Rattle.msgpack_scalars.specs.declared.Opening.{Opening}
 use Rattle.msgpack_scalars.specs.declared.Opening.TheVariants.{String, Array, Map}
-use Rattle.msgpack_scalars.specs.declared.Header.{Header}
-use Rattle.msgpack_scalars.specs.declared.Header.TheVariants.{Is as IsHeader, Other as OtherHeader}
+use Rattle.msgpack_scalars.specs.declared.NoNumber.TheVariants.{Cut, Other}
 
 up_from : ℕ → ℕ → List ℕ
 up_from b zero = []
 up_from b (suc n) = b ∷ up_from (suc b) n
 
 starts : Start → Bool
-starts (Here w f) = true
-starts Elsewhere = false
+starts (Some (w, f)) = true
+starts None = false
 
 between : ℕ → ℕ → ℕ → Bool
 between a b x = leb a x && leb x b
@@ -45,31 +38,31 @@ case b a = record { bytes = b; answer = a }
 
 abbrev unsigneds : List (Case Natural)
 unsigneds =
-    case (0x00 ∷ []) (Is 0 1)
-    ∷ case (0x7f ∷ 0x01 ∷ []) (Is 127 1)
-    ∷ case (0xcc ∷ 0x05 ∷ []) (Is 5 2)
-    ∷ case (0xcd ∷ 0x02 ∷ 0x00 ∷ []) (Is 512 3)
-    ∷ case (0xce ∷ 0x00 ∷ 0x00 ∷ 0xea ∷ 0x61 ∷ []) (Is 60001 5)
-    ∷ case (0xcf ∷ 0xff ∷ 0xff ∷ 0xff ∷ 0xff ∷ 0xff ∷ 0xff ∷ 0xff ∷ 0xff ∷ []) (Is 18446744073709551615 9)
-    ∷ case [] Cut
-    ∷ case (0xcd ∷ 0x02 ∷ []) Cut
-    ∷ case (0xe0 ∷ []) Other
-    ∷ case (0xd0 ∷ 0x05 ∷ []) Other
-    ∷ case (0x80 ∷ []) Other
+    case (0x00 ∷ []) (Ok (0, 1))
+    ∷ case (0x7f ∷ 0x01 ∷ []) (Ok (127, 1))
+    ∷ case (0xcc ∷ 0x05 ∷ []) (Ok (5, 2))
+    ∷ case (0xcd ∷ 0x02 ∷ 0x00 ∷ []) (Ok (512, 3))
+    ∷ case (0xce ∷ 0x00 ∷ 0x00 ∷ 0xea ∷ 0x61 ∷ []) (Ok (60001, 5))
+    ∷ case (0xcf ∷ 0xff ∷ 0xff ∷ 0xff ∷ 0xff ∷ 0xff ∷ 0xff ∷ 0xff ∷ 0xff ∷ []) (Ok (18446744073709551615, 9))
+    ∷ case [] (Err Cut)
+    ∷ case (0xcd ∷ 0x02 ∷ []) (Err Cut)
+    ∷ case (0xe0 ∷ []) (Err Other)
+    ∷ case (0xd0 ∷ 0x05 ∷ []) (Err Other)
+    ∷ case (0x80 ∷ []) (Err Other)
     ∷ []
 
 abbrev integers : List (Case Integer)
 integers =
-    case (0xcc ∷ 0x05 ∷ []) (IsInt (FromZero 5) 2)
-    ∷ case (0xd0 ∷ 0x05 ∷ []) (IsInt (FromZero 5) 2)
-    ∷ case (0xff ∷ []) (IsInt (BelowZero 0) 1)
-    ∷ case (0xe0 ∷ []) (IsInt (BelowZero 31) 1)
-    ∷ case (0xd0 ∷ 0x80 ∷ []) (IsInt (BelowZero 127) 2)
-    ∷ case (0xd1 ∷ 0xff ∷ 0x7f ∷ []) (IsInt (BelowZero 128) 3)
-    ∷ case (0xd3 ∷ 0x80 ∷ 0x00 ∷ 0x00 ∷ 0x00 ∷ 0x00 ∷ 0x00 ∷ 0x00 ∷ 0x00 ∷ []) (IsInt (BelowZero 9223372036854775807) 9)
-    ∷ case (0xd3 ∷ 0x7f ∷ 0xff ∷ 0xff ∷ 0xff ∷ 0xff ∷ 0xff ∷ 0xff ∷ 0xff ∷ []) (IsInt (FromZero 9223372036854775807) 9)
-    ∷ case (0xd1 ∷ 0xff ∷ []) CutInt
-    ∷ case (0xa1 ∷ 0x61 ∷ []) OtherInt
+    case (0xcc ∷ 0x05 ∷ []) (Ok (FromZero 5, 2))
+    ∷ case (0xd0 ∷ 0x05 ∷ []) (Ok (FromZero 5, 2))
+    ∷ case (0xff ∷ []) (Ok (BelowZero 0, 1))
+    ∷ case (0xe0 ∷ []) (Ok (BelowZero 31, 1))
+    ∷ case (0xd0 ∷ 0x80 ∷ []) (Ok (BelowZero 127, 2))
+    ∷ case (0xd1 ∷ 0xff ∷ 0x7f ∷ []) (Ok (BelowZero 128, 3))
+    ∷ case (0xd3 ∷ 0x80 ∷ 0x00 ∷ 0x00 ∷ 0x00 ∷ 0x00 ∷ 0x00 ∷ 0x00 ∷ 0x00 ∷ []) (Ok (BelowZero 9223372036854775807, 9))
+    ∷ case (0xd3 ∷ 0x7f ∷ 0xff ∷ 0xff ∷ 0xff ∷ 0xff ∷ 0xff ∷ 0xff ∷ 0xff ∷ []) (Ok (FromZero 9223372036854775807, 9))
+    ∷ case (0xd1 ∷ 0xff ∷ []) (Err Cut)
+    ∷ case (0xa1 ∷ 0x61 ∷ []) (Err Other)
     ∷ []
 
 record Asked : Type 0 where
@@ -82,16 +75,16 @@ asked o b a = record { opening = o; bytes = b; answer = a }
 
 abbrev headers : List Asked
 headers =
-    asked Array (0x93 ∷ []) (IsHeader 3 1)
-    ∷ asked Array (0xdd ∷ 0x00 ∷ 0x00 ∷ 0x00 ∷ 0x01 ∷ []) (IsHeader 1 5)
-    ∷ asked Array (0x83 ∷ []) OtherHeader
-    ∷ asked Map (0x83 ∷ []) (IsHeader 3 1)
-    ∷ asked Map (0xde ∷ 0x01 ∷ 0x00 ∷ []) (IsHeader 256 3)
-    ∷ asked Map (0xde ∷ 0x01 ∷ []) OtherHeader
-    ∷ asked String (0xbf ∷ []) (IsHeader 31 1)
-    ∷ asked String (0xda ∷ 0x01 ∷ 0x02 ∷ []) (IsHeader 258 3)
-    ∷ asked String (0xc4 ∷ 0x01 ∷ 0x00 ∷ []) OtherHeader
-    ∷ asked String [] OtherHeader
+    asked Array (0x93 ∷ []) (Some (3, 1))
+    ∷ asked Array (0xdd ∷ 0x00 ∷ 0x00 ∷ 0x00 ∷ 0x01 ∷ []) (Some (1, 5))
+    ∷ asked Array (0x83 ∷ []) None
+    ∷ asked Map (0x83 ∷ []) (Some (3, 1))
+    ∷ asked Map (0xde ∷ 0x01 ∷ 0x00 ∷ []) (Some (256, 3))
+    ∷ asked Map (0xde ∷ 0x01 ∷ []) None
+    ∷ asked String (0xbf ∷ []) (Some (31, 1))
+    ∷ asked String (0xda ∷ 0x01 ∷ 0x02 ∷ []) (Some (258, 3))
+    ∷ asked String (0xc4 ∷ 0x01 ∷ 0x00 ∷ []) None
+    ∷ asked String [] None
     ∷ []
 
 examples : (map (λ (c : Case Natural). unsigned c.bytes) unsigneds ≡ map (λ (c : Case Natural). c.answer) unsigneds)

@@ -1,29 +1,35 @@
 -- Unsigned numbers and integers at the front of bytes, each with the bytes that it takes. "Each width is accepted even where a shorter one would do."
-use Rattle.std.specs.Prelude.{ℕ, zero, suc, ◌+◌, ◌-◌, ◌*◌, ◌^◌, [], ◌∷◌, leb, ltb, length, take, drop, get_or}
+use Rattle.std.specs.Prelude.{ℕ, zero, suc, ◌+◌, ◌-◌, ◌*◌, ◌^◌, [], ◌∷◌, leb, ltb, length, take, drop, get_or, Some, None, Ok, Err, Result}
 use Rattle.msgpack_first_bytes.specs.Bytes.{Bytes, pick}
 use Rattle.msgpack_first_bytes.specs.FirstByte.{form_of}
 use Rattle.msgpack_first_bytes.specs.declared.Kind.{Kind}
 use Rattle.msgpack_first_bytes.specs.declared.Kind.TheVariants.{Unsigned, Signed}
 use Rattle.msgpack_numbers.specs.Number.{number}
-use Rattle.msgpack_scalars.specs.Start.{scalar_of}
-use Rattle.msgpack_scalars.specs.declared.Start.{Start}
-use Rattle.msgpack_scalars.specs.declared.Start.TheVariants.{Here, Elsewhere}
-use Rattle.msgpack_scalars.specs.declared.Due.{Due}
-use Rattle.msgpack_scalars.specs.declared.Due.TheVariants.{More, Cut as CutDue, Other as OtherDue}
-use Rattle.msgpack_scalars.specs.declared.Natural.{Natural}
-use Rattle.msgpack_scalars.specs.declared.Natural.TheVariants.{Is, Cut, Other}
+use Rattle.msgpack_scalars.specs.Start.{scalar_of, Start}
 use Rattle.msgpack_scalars.specs.declared.Int.{Int}
 use Rattle.msgpack_scalars.specs.declared.Int.TheVariants.{FromZero, BelowZero}
-use Rattle.msgpack_scalars.specs.declared.Integer.{Integer}
-use Rattle.msgpack_scalars.specs.declared.Integer.TheVariants.{Is as IsInt, Cut as CutInt, Other as OtherInt}
+use Rattle.msgpack_scalars.specs.declared.NoNumber.TheVariants.{Cut, Other}
+use Rattle.msgpack_scalars.specs.declared.NoNumber.{NoNumber}
+
+-- an unsigned number, with the place after it
+abbrev pub Natural : Type 0
+Natural = Result (ℕ × ℕ) NoNumber
+
+-- an integer, with the place after it
+abbrev pub Integer : Type 0
+Integer = Result (Int × ℕ) NoNumber
+
+-- how many bytes are due after a first byte, and there
+abbrev pub Due : Type 0
+Due = Result ℕ NoNumber
 
 -- a number of kind k at the front: how many bytes are due after its first byte, or they have not all come, or the first byte is of another kind
 unfoldable pub due_in : Start → Bytes → Due
-due_in (Here w f) s = pick (leb f (length s)) (More f) CutDue
-due_in Elsewhere s = OtherDue
+due_in (Some (w, f)) s = pick (leb f (length s)) (Ok f) (Err Cut)
+due_in None s = Err Other
 
 unfoldable pub due : Kind → Bytes → Due
-due k [] = CutDue
+due k [] = Err Cut
 due k (b ∷ s) = due_in (scalar_of k (form_of b)) s
 
 -- the number of a first byte and the f bytes due after it: the byte itself where none is due
@@ -32,9 +38,9 @@ natural_of zero s = get_or s 0 0
 natural_of (suc f) s = number (take (suc f) (drop 1 s))
 
 unfoldable pub unsigned_by : Due → Bytes → Natural
-unsigned_by (More f) s = Is (natural_of f s) (1 + f)
-unsigned_by CutDue s = Cut
-unsigned_by OtherDue s = Other
+unsigned_by (Ok f) s = Ok (natural_of f s, 1 + f)
+unsigned_by (Err Cut) s = Err Cut
+unsigned_by (Err Other) s = Err Other
 
 -- "Unsigned" means forms 00 to 7f and cc to cf: the first bytes of kind Unsigned (computed in Examples)
 unfoldable pub unsigned : Bytes → Natural
@@ -50,17 +56,17 @@ signed_of zero s = BelowZero (255 - get_or s 0 0)
 signed_of (suc f) s = twos_complement (suc f) (natural_of (suc f) s)
 
 unfoldable pub signed_by : Due → Bytes → Integer
-signed_by (More f) s = IsInt (signed_of f s) (1 + f)
-signed_by CutDue s = CutInt
-signed_by OtherDue s = OtherInt
+signed_by (Ok f) s = Ok (signed_of f s, 1 + f)
+signed_by (Err Cut) s = Err Cut
+signed_by (Err Other) s = Err Other
 
 unfoldable pub signed : Bytes → Integer
 signed s = signed_by (due Signed s) s
 
 unfoldable pub adding : Natural → Integer → Integer
-adding (Is n e) z = IsInt (FromZero n) e
-adding Cut z = CutInt
-adding Other z = z
+adding (Ok (n, e)) z = Ok (FromZero n, e)
+adding (Err Cut) z = Err Cut
+adding (Err Other) z = z
 
 -- "Integer" adds e0 to ff and d0 to d3, range -2^63 to 2^64-1
 unfoldable pub integer : Bytes → Integer
@@ -68,11 +74,11 @@ integer s = adding (unsigned s) (signed s)
 
 -- the same, counted from k bytes before
 abbrev pub shift_natural : ℕ → Natural → Natural
-shift_natural k (Is n e) = Is n (k + e)
-shift_natural k Cut = Cut
-shift_natural k Other = Other
+shift_natural k (Ok (n, e)) = Ok (n, k + e)
+shift_natural k (Err Cut) = Err Cut
+shift_natural k (Err Other) = Err Other
 
 abbrev pub shift_integer : ℕ → Integer → Integer
-shift_integer k (IsInt z e) = IsInt z (k + e)
-shift_integer k CutInt = CutInt
-shift_integer k OtherInt = OtherInt
+shift_integer k (Ok (z, e)) = Ok (z, k + e)
+shift_integer k (Err Cut) = Err Cut
+shift_integer k (Err Other) = Err Other

@@ -7,15 +7,16 @@ ghost use Rattle.msgpack_scalars.specs.Integer.{due, natural_of, signed_of, unsi
 ghost use Rattle.msgpack_scalars.specs.Header.{counted, header, shift_header};
 
 use msgpack_first_bytes::{Form, Kind};
-use msgpack_numbers::Number;
 
 // An unsigned number and the place after it; cut short; or the first byte starts none.
-#[derive(Clone, Copy)]
-pub enum Natural {
-    Is(u64, usize),
+// Why no number is read: its bytes have not all come, or the first byte starts none of the kind.
+#[derive(Clone, Copy, PartialEq, Eq)]
+pub enum NoNumber {
     Cut,
     Other,
 }
+
+pub type Natural = Result<(u64, usize), NoNumber>;
 
 // An integer: FromZero(n) is n, BelowZero(m) is -1 - m.
 #[derive(Clone, Copy)]
@@ -25,27 +26,13 @@ pub enum Int {
 }
 
 // An integer and the place after it; cut short; or the first byte starts none.
-#[derive(Clone, Copy)]
-pub enum Integer {
-    Is(Int, usize),
-    Cut,
-    Other,
-}
+pub type Integer = Result<(Int, usize), NoNumber>;
 
 // Whether a form begins what is asked for: its length bytes, and what is due by its first byte.
-#[derive(Clone, Copy)]
-pub enum Start {
-    Here(usize, usize),
-    Elsewhere,
-}
+pub type Start = Option<(usize, usize)>;
 
 // How many bytes are due after the first byte of a number of one kind, and there.
-#[derive(Clone, Copy)]
-pub enum Due {
-    More(usize),
-    Cut,
-    Other,
-}
+pub type Due = Result<usize, NoNumber>;
 
 // Whose header is asked for.
 #[derive(Clone, Copy)]
@@ -56,27 +43,23 @@ pub enum Opening {
 }
 
 // A length or a count, and the place after the header; or none of the kind asked for.
-#[derive(Clone, Copy)]
-pub enum Header {
-    Is(usize, usize),
-    Other,
-}
+pub type Header = Option<(usize, usize)>;
 
 // The start of a scalar of one kind.
 fn scalar_start(kind: Kind, form: Form) -> Start
     ensures { result ≡ scalar_of kind form }
 {
     match form {
-        Form::Unused => Start::Elsewhere,
+        Form::Unused => None,
         Form::Scalar(found, width, fixed) => {
             if msgpack_first_bytes::same_kind(found, kind) {
-                Start::Here(width, fixed)
+                Some((width, fixed))
             } else {
-                Start::Elsewhere
+                None
             }
         }
-        Form::Array(_, _) => Start::Elsewhere,
-        Form::Map(_, _) => Start::Elsewhere,
+        Form::Array(_, _) => None,
+        Form::Map(_, _) => None,
     }
 }
 
@@ -84,10 +67,10 @@ fn array_start(form: Form) -> Start
     ensures { result ≡ array_by form }
 {
     match form {
-        Form::Unused => Start::Elsewhere,
-        Form::Scalar(_, _, _) => Start::Elsewhere,
-        Form::Array(width, fixed) => Start::Here(width, fixed),
-        Form::Map(_, _) => Start::Elsewhere,
+        Form::Unused => None,
+        Form::Scalar(_, _, _) => None,
+        Form::Array(width, fixed) => Some((width, fixed)),
+        Form::Map(_, _) => None,
     }
 }
 
@@ -96,10 +79,10 @@ fn map_start(form: Form) -> Start
     ensures { result ≡ map_by form }
 {
     match form {
-        Form::Unused => Start::Elsewhere,
-        Form::Scalar(_, _, _) => Start::Elsewhere,
-        Form::Array(_, _) => Start::Elsewhere,
-        Form::Map(width, fixed) => Start::Here(width, fixed >> 1),
+        Form::Unused => None,
+        Form::Scalar(_, _, _) => None,
+        Form::Array(_, _) => None,
+        Form::Map(width, fixed) => Some((width, fixed >> 1)),
     }
 }
 
@@ -118,15 +101,15 @@ fn due_at(s: &[u8], at: usize, kind: Kind) -> Due
     ensures { result ≡ due kind (drop at s.now) }
 {
     if s.len() <= at {
-        return Due::Cut;
+        return Err(NoNumber::Cut);
     }
-    let Start::Here(_, more) = scalar_start(kind, msgpack_first_bytes::form_of(s[at])) else {
-        return Due::Other;
+    let Some((_, more)) = scalar_start(kind, msgpack_first_bytes::form_of(s[at])) else {
+        return Err(NoNumber::Other);
     };
     if s.len() - at <= more {
-        return Due::Cut;
+        return Err(NoNumber::Cut);
     }
-    Due::More(more)
+    Ok(more)
 }
 
 // The number of the first byte at `at` and the `more` bytes due after it.
@@ -137,7 +120,7 @@ fn natural_of(s: &[u8], at: usize, more: usize) -> u64
     if more == 0 {
         return s[at] as u64;
     }
-    let Number::Is(n) = msgpack_numbers::number_at(s, at + 1, more) else {
+    let Some(n) = msgpack_numbers::number_at(s, at + 1, more) else {
         return 0;
     };
     n
@@ -148,9 +131,9 @@ fn unsigned_by_form(s: &[u8], at: usize) -> Natural
     ensures { result ≡ shift_natural at (unsigned (drop at s.now)) }
 {
     match due_at(s, at, Kind::Unsigned) {
-        Due::More(more) => Natural::Is(natural_of(s, at, more), at + (1 + more)),
-        Due::Cut => Natural::Cut,
-        Due::Other => Natural::Other,
+        Ok(more) => Ok((natural_of(s, at, more), at + (1 + more))),
+        Err(NoNumber::Cut) => Err(NoNumber::Cut),
+        Err(NoNumber::Other) => Err(NoNumber::Other),
     }
 }
 
@@ -161,7 +144,7 @@ pub fn unsigned_at(s: &[u8], at: usize) -> Natural
     if at < s.len() {
         let b = s[at];
         if msgpack_first_bytes::is_positive_fixint(b) {
-            return Natural::Is(b as u64, at + 1);
+            return Ok((b as u64, at + 1));
         }
     }
     unsigned_by_form(s, at)
@@ -183,7 +166,7 @@ fn signed_of(s: &[u8], at: usize, more: usize) -> Int
     if more == 0 {
         return Int::BelowZero((255 - s[at]) as u64);
     }
-    let Number::Is(n) = msgpack_numbers::number_at(s, at + 1, more) else {
+    let Some(n) = msgpack_numbers::number_at(s, at + 1, more) else {
         return Int::FromZero(0);
     };
     let half = sign_bit(more);
@@ -198,9 +181,9 @@ fn signed_at(s: &[u8], at: usize) -> Integer
     ensures { result ≡ shift_integer at (signed (drop at s.now)) }
 {
     match due_at(s, at, Kind::Signed) {
-        Due::More(more) => Integer::Is(signed_of(s, at, more), at + (1 + more)),
-        Due::Cut => Integer::Cut,
-        Due::Other => Integer::Other,
+        Ok(more) => Ok((signed_of(s, at, more), at + (1 + more))),
+        Err(NoNumber::Cut) => Err(NoNumber::Cut),
+        Err(NoNumber::Other) => Err(NoNumber::Other),
     }
 }
 
@@ -209,9 +192,9 @@ pub fn integer_at(s: &[u8], at: usize) -> Integer
     ensures { result ≡ shift_integer at (integer (drop at s.now)) }
 {
     match unsigned_at(s, at) {
-        Natural::Is(n, end) => Integer::Is(Int::FromZero(n), end),
-        Natural::Cut => Integer::Cut,
-        Natural::Other => signed_at(s, at),
+        Ok((n, end)) => Ok((Int::FromZero(n), end)),
+        Err(NoNumber::Cut) => Err(NoNumber::Cut),
+        Err(NoNumber::Other) => signed_at(s, at),
     }
 }
 
@@ -220,13 +203,13 @@ fn counted_at(s: &[u8], at: usize, start: Start) -> Header
     requires { (at < length s.now) × Few 31 start }
     ensures { result ≡ shift_header at (counted start (drop (at + 1) s.now)) }
 {
-    let Start::Here(width, fixed) = start else {
-        return Header::Other;
+    let Some((width, fixed)) = start else {
+        return None;
     };
-    let Number::Is(n) = msgpack_numbers::number_at(s, at + 1, width) else {
-        return Header::Other;
+    let Some(n) = msgpack_numbers::number_at(s, at + 1, width) else {
+        return None;
     };
-    Header::Is(n as usize + fixed, at + (1 + width))
+    Some((n as usize + fixed, at + (1 + width)))
 }
 
 // The header at `at` of a string (its length), an array or a map (its count).
@@ -234,7 +217,7 @@ pub fn header_at(s: &[u8], at: usize, opening: Opening) -> Header
     ensures { result ≡ shift_header at (header (start_by opening) (drop at s.now)) }
 {
     if s.len() <= at {
-        return Header::Other;
+        return None;
     }
     let start = start_of(opening, msgpack_first_bytes::form_of(s[at]));
     counted_at(s, at, start)

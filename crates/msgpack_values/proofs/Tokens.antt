@@ -1,4 +1,5 @@
 -- What the first bytes of a value tell, one law for each way that `token_at` and the functions below it take. Assumes nothing.
+use Rattle.std.specs.Prelude.{Ok, Err}
 use mathlib.Core.Path.{◌≡◌, refl, sym, ap, ◌∙◌}
 use mathlib.Core.Logic.{⊎_elim}
 use Prim.Native.Nat.{ℕ, zero, suc, ◌+◌, ◌-◌, ◌*◌, ◌<◌, ◌≤◌}
@@ -16,12 +17,10 @@ use Rattle.msgpack_first_bytes.proofs.Logic.{impossible, either, equal}
 use Rattle.msgpack_first_bytes.proofs.Entries as Entries
 use Rattle.msgpack_numbers.specs.Number.{number}
 use Rattle.msgpack_numbers.proofs.Big.{number-first}
-use Rattle.msgpack_values.specs.Value.{shift, payload, sized, items, by_form, value, inside}
-use Rattle.msgpack_values.specs.Tokens.{first_byte_entry, Width, values_of, token_of, Heads, Ones, Tells}
+use Rattle.msgpack_values.specs.Value.{shift, payload, sized, items, by_form, value, inside, Read}
+use Rattle.msgpack_values.specs.Tokens.{first_byte_entry, Width, values_of, token_of, Heads, Ones, Tells, Found}
 use Rattle.msgpack_values.specs.declared.Token.{Token}
 use Rattle.msgpack_values.specs.declared.Token.TheVariants as T
-use Rattle.msgpack_values.specs.declared.Read.{Read}
-use Rattle.msgpack_values.specs.declared.Read.TheVariants.{Whole, Broken}
 use Rattle.msgpack_values.proofs.Laws as Laws
 
 -- ---- a container, by its count
@@ -53,7 +52,7 @@ module _ (s : Bytes) (at e d : ℕ) (q : e ≡ first_byte_entry s at) where
   own : at < length s → e ≡ entry_of (get_or s at 0)
   own h = q ∙ sym (entry_here s at h)
 
-  pub unused : e ≡ 0x0f00 → Broken at ≡ shift at (value d (drop at s))
+  pub unused : e ≡ 0x0f00 → Err at ≡ shift at (value d (drop at s))
   unused z =
       ⊎_elim (λ h. Laws.value_end s at d h) (λ h. Laws.value_unused s at d h (Entries.unused_said (get_or s at 0) e (own h) (omega arith))) (either (length s) at)
 
@@ -103,7 +102,7 @@ module _ (s : Bytes) (at e d : ℕ) (q : e ≡ first_byte_entry s at) where
         none : 10 < kind_digit e → e ≡ 0x0f00
         none m = own there ∙ Entries.unused_entry (get_or s at 0) (Entries.unused_said (get_or s at 0) e (own there) m)
 
-    pub cut : 0 < d → length s < at + 1 + length_bytes e → Broken (length s) ≡ shift at (value d (drop at s))
+    pub cut : 0 < d → length s < at + 1 + length_bytes e → Err (length s) ≡ shift at (value d (drop at s))
     cut g l =
         let z : d ≡ suc (d - 1) = omega arith in
         Laws.sized_missing s (at + 1) (length_bytes e) _ (omega (arith, there)) l
@@ -119,7 +118,7 @@ module _ (s : Bytes) (at e d : ℕ) (q : e ≡ first_byte_entry s at) where
         ∙ inside-counted s at d (length_bytes e) (fixed_payload e) (pick (eqb (kind_digit e) 9) 1 2) (number (take (length_bytes e) (drop (at + 1) s))) m g l refl v
 
 -- a container that may have no depth
-pub too_deep_lem : (s : Bytes) (at e : ℕ) → e ≡ first_byte_entry s at → 9 ≤ kind_digit e → Broken at ≡ shift at (value 0 (drop at s))
+pub too_deep_lem : (s : Bytes) (at e : ℕ) → e ≡ first_byte_entry s at → 9 ≤ kind_digit e → Err at ≡ shift at (value 0 (drop at s))
 too_deep_lem s at e q k =
     ⊎_elim (λ (z : e ≡ 0x0f00). unused s at e 0 q z) (λ n. Laws.inside-deep (drop (at + 1) s) at _ _ _ ∙ sym (ap (shift at) (opens s at e 0 q k n)))
     (equal e 0x0f00)
@@ -176,7 +175,7 @@ module _ (s : Bytes) (k : Kind) (f : ℕ) where
       two : shift (p + 1 + 1) (payload (m + f) (drop (p + 1 + 1) s)) ≡ shift (p + 2) (payload (m + f) (drop (p + 2) s))
       two = let z : p + 1 + 1 ≡ p + 2 = omega arith in rw z
 
-  pub heads : (at d e : ℕ) → at < length s → Scalar k 1 f ≡ form_of (get_or s at 0) → Whole e ≡ shift at (value d (drop at s)) → Heads s at e
+  pub heads : (at d e : ℕ) → at < length s → Scalar k 1 f ≡ form_of (get_or s at 0) → Ok e ≡ shift at (value d (drop at s)) → Heads s at e
   heads at d e h q w = ⊎_elim long-enough missing (either (at + 2) (length s))
     where
       m : ℕ
@@ -192,7 +191,7 @@ module _ (s : Bytes) (k : Kind) (f : ℕ) where
             room = omega arith;
             alike = λ p d r x y.
                 let o : p + (e - at) ≡ p + 2 + (m + f) = omega arith in
-                ap Whole o ∙ Laws.payload-whole s (p + 2) (m + f) (omega arith) ∙ sym (by_length p d m (omega arith) (q ∙ ap form_of (sym x)) (sym y));
+                ap Ok o ∙ Laws.payload-whole s (p + 2) (m + f) (omega arith) ∙ sym (by_length p d m (omega arith) (q ∙ ap form_of (sym x)) (sym y));
           }
 
       long-enough : at + 2 ≤ length s → Heads s at e
@@ -203,15 +202,15 @@ module _ (s : Bytes) (k : Kind) (f : ℕ) where
           (either (at + 2 + (m + f)) (length s))
 
 -- a scalar with one length byte
-pub headed : (s : Bytes) (at e d n : ℕ) → e ≡ first_byte_entry s at → kind_digit e < 9 → length_bytes e ≡ 1 → Whole n ≡ shift at (value d (drop at s)) → Heads s at n
+pub headed : (s : Bytes) (at e d n : ℕ) → e ≡ first_byte_entry s at → kind_digit e < 9 → length_bytes e ≡ 1 → Ok n ≡ shift at (value d (drop at s)) → Heads s at n
 headed s at e d n q k w =
     let h : at < length s = within s at e q (λ z. omega arith) in
     heads s _ (fixed_payload e) at d n h (rw w at (Entries.scalar_said (get_or s at 0) e (own s at e d q h) k))
 
 -- ---- what the code answers
 
-pub told-whole : (s : Bytes) (at due n : ℕ) → n ≡ at + 1 + due → at + due < length s → Whole n ≡ shift (at + 1) (payload due (drop (at + 1) s))
-told-whole s at due n e h = ap Whole e ∙ Laws.payload-whole s (at + 1) due (omega arith)
+pub told-whole : (s : Bytes) (at due n : ℕ) → n ≡ at + 1 + due → at + due < length s → Ok n ≡ shift (at + 1) (payload due (drop (at + 1) s))
+told-whole s at due n e h = ap Ok e ∙ Laws.payload-whole s (at + 1) due (omega arith)
 
 module _ (e : ℕ) (s : Bytes) where
   pub values-short : length_bytes e ≡ 0 → fixed_payload e ≡ values_of e s
@@ -229,19 +228,19 @@ module _ (e : ℕ) (s : Bytes) where
 -- a value that is read is told
 pub read_tells : (s : Bytes) (at d : ℕ) (q r : Read) → r ≡ q → Tells s at d q (token_of r)
 unfolding token_of
-read_tells s at d q (Whole n) e = e
-read_tells s at d q (Broken p) e = e
+read_tells s at d q (Ok n) e = e
+read_tells s at d q (Err p) e = e
 
 -- what is inside arrays of one tells their answer
-pub inner_tells : (s : Bytes) (at d at' d' : ℕ) (q q' : Read) (r : Token) → at ≤ at' → d' ≤ d → q' ≡ q → Tells s at' d' q' r → Tells s at d q r
-inner_tells s at d at' d' q q' (T.Past e) h l z o = o ∙ z
-inner_tells s at d at' d' q q' (T.Headed p e) h l z o = (o.0 ∙ z, o.1)
-inner_tells s at d at' d' q q' (T.Holds n from m) h l z o = let x = o.0 in let y = o.1.0 in (omega arith, (omega arith, sym z ∙ o.1.1))
-inner_tells s at d at' d' q q' (T.Fails p) h l z o = o ∙ z
+pub inner_tells : (s : Bytes) (at d at' d' : ℕ) (q q' : Read) (r : Found) → at ≤ at' → d' ≤ d → q' ≡ q → Tells s at' d' q' r → Tells s at d q r
+inner_tells s at d at' d' q q' (Ok (T.Past e)) h l z o = o ∙ z
+inner_tells s at d at' d' q q' (Ok (T.Headed p e)) h l z o = (o.0 ∙ z, o.1)
+inner_tells s at d at' d' q q' (Ok (T.Holds n from m)) h l z o = let x = o.0 in let y = o.1.0 in (omega arith, (omega arith, sym z ∙ o.1.1))
+inner_tells s at d at' d' q q' (Err p) h l z o = o ∙ z
 
 -- an integer or a short string that is there
 pub common : (s : Bytes) (at d k : ℕ) → at < length s → k ≡ common_length (entry_of (get_or s at 0)) → 0 < k → k ≤ length s - at
-    → Whole (at + k) ≡ shift at (value d (drop at s))
+    → Ok (at + k) ≡ shift at (value d (drop at s))
 common s at d k h q g l =
     let e = entry_of (get_or s at 0) in
     let c = Entries.common_said e k q g in

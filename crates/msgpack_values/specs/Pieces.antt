@@ -1,13 +1,12 @@
 -- Values one after the other, each as its own bytes.
-use Rattle.std.specs.Prelude.{ℕ, zero, suc, ◌≡◌, List, [], ◌∷◌, ◌++◌, length, take, drop}
+use Rattle.std.specs.Prelude.{ℕ, zero, suc, ◌≡◌, List, [], ◌∷◌, ◌++◌, length, take, drop, Ok, Err}
 use Rattle.msgpack_first_bytes.specs.Bytes.{Bytes}
-use Rattle.msgpack_values.specs.declared.Read.{Read}
-use Rattle.msgpack_values.specs.declared.Read.TheVariants.{Whole, Broken}
+use Rattle.msgpack_values.specs.Value.{Read}
 
 -- the bytes of a first value, and then those of the rest
 abbrev pub piece_then : Read → Bytes → (ℕ → List Bytes) → List Bytes
-piece_then (Whole k) s f = take k s ∷ f k
-piece_then (Broken p) s f = []
+piece_then (Ok k) s f = take k s ∷ f k
+piece_then (Err p) s f = []
 
 -- the bytes of each of n values, read by v
 unfoldable pub pieces : (Bytes → Read) → ℕ → Bytes → List Bytes
@@ -20,7 +19,7 @@ joined (f ∷ fs) = f ++ joined fs
 
 -- f is the bytes of one value, and no more
 abbrev pub Single : (Bytes → Read) → Bytes → Type 0
-Single v f = v f ≡ Whole (length f)
+Single v f = v f ≡ Ok (length f)
 
 -- each of a list is one value, and no more
 pub data Each (v : Bytes → Read) : List Bytes → Type 0 where

@@ -1,10 +1,8 @@
 -- The place of the byte that spoils a value. Document 02, 3/12: "The reading of one value should tell the first byte that spoils it: an unused
 -- first byte, the container that goes one too deep, or the end of the bytes where more were due, whichever is leftmost."
-use Rattle.std.specs.Prelude.{ℕ, true, false, drop}
+use Rattle.std.specs.Prelude.{ℕ, true, false, drop, Ok, Err}
 use Rattle.msgpack_first_bytes.specs.Bytes.{Bytes}
-use Rattle.msgpack_values.specs.Value.{shift, value}
-use Rattle.msgpack_values.specs.declared.Read.{Read}
-use Rattle.msgpack_values.specs.declared.Read.TheVariants.{Whole, Broken}
+use Rattle.msgpack_values.specs.Value.{shift, value, Read}
 use Rattle.msgpack_values.specs.declared.OptionalNumber.{OptionalNumber}
 
 -- an absent place is all 0
@@ -15,8 +13,8 @@ abbrev pub at_place : ℕ → OptionalNumber
 at_place p = record { present = true; value = p }
 
 abbrev pub place_of : Read → OptionalNumber
-place_of (Whole n) = no_place
-place_of (Broken p) = at_place p
+place_of (Ok n) = no_place
+place_of (Err p) = at_place p
 
 -- "a place is given exactly then": where no whole value of depth at most d stands at `at`; it counts from the first byte of s
 unfoldable pub spoiled_at : ℕ → ℕ → Bytes → OptionalNumber

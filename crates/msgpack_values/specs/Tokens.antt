@@ -1,11 +1,9 @@
 -- Inner: what the reader finds at a place before it goes down. Only contracts of inner functions name it.
-use Rattle.std.specs.Prelude.{ℕ, ◌+◌, ◌-◌, ◌*◌, ◌<◌, ◌≤◌, ◌≡◌, leb, eqb, length, take, drop, get_or}
+use Rattle.std.specs.Prelude.{ℕ, ◌+◌, ◌-◌, ◌*◌, ◌<◌, ◌≤◌, ◌≡◌, leb, eqb, length, take, drop, get_or, Ok, Err, Result}
 use Rattle.msgpack_first_bytes.specs.Bytes.{Bytes, pick}
 use Rattle.msgpack_first_bytes.specs.Entry.{length_bytes, kind_digit, fixed_payload, entry_of, array_of_one}
 use Rattle.msgpack_numbers.specs.Number.{number}
-use Rattle.msgpack_values.specs.Value.{shift, items, value}
-use Rattle.msgpack_values.specs.declared.Read.{Read}
-use Rattle.msgpack_values.specs.declared.Read.TheVariants.{Whole, Broken}
+use Rattle.msgpack_values.specs.Value.{shift, items, value, Read}
 use Rattle.msgpack_values.specs.declared.Token.{Token}
 use Rattle.msgpack_values.specs.declared.Token.TheVariants as T
 use Rattle.msgpack_values.specs.declared.Item.{Item}
@@ -29,29 +27,33 @@ Counts e = 0 < length_bytes e → Width (length_bytes e) × (fixed_payload e ≡
 unfoldable pub values_of : ℕ → Bytes → ℕ
 values_of e s = number (take (length_bytes e) s) * pick (eqb (kind_digit e) 9) 1 2 + fixed_payload e
 
-unfoldable pub token_of : Read → Token
-token_of (Whole n) = T.Past n
-token_of (Broken p) = T.Fails p
+-- what stands at a place, or the place of the byte that spoils it
+abbrev pub Found : Type 0
+Found = Result Token ℕ
+
+unfoldable pub token_of : Read → Found
+token_of (Ok n) = Ok (T.Past n)
+token_of (Err p) = Err p
 
 -- the value from `at` to e has one length byte: whatever begins with its first two bytes, and has room, ends as far on
 pub record Heads (s : Bytes) (at e : ℕ) : Type 0 where
   pub head : at + 2 ≤ e
   pub room : e ≤ length s
   pub alike : (p d : ℕ) → p + (e - at) ≤ length s → get_or s p 0 ≡ get_or s at 0 → get_or s (p + 1) 0 ≡ get_or s (at + 1) 0
-      → Whole (p + (e - at)) ≡ shift p (value d (drop p s))
+      → Ok (p + (e - at)) ≡ shift p (value d (drop p s))
 
 -- a token tells the answer q of the value at a place, of depth at most d: it is known, or that of n values further on, less deep
-abbrev pub Tells : Bytes → ℕ → ℕ → Read → Token → Type 0
-Tells s at d q (T.Past e) = Whole e ≡ q
-Tells s at d q (T.Headed h e) = (Whole e ≡ q) × Heads s h e
-Tells s at d q (T.Holds n from d') = (d' < d) × ((at < from) × (q ≡ shift from (items (value d') n (drop from s))))
-Tells s at d q (T.Fails p) = Broken p ≡ q
+abbrev pub Tells : Bytes → ℕ → ℕ → Read → Found → Type 0
+Tells s at d q (Ok (T.Past e)) = Ok e ≡ q
+Tells s at d q (Ok (T.Headed h e)) = (Ok e ≡ q) × Heads s h e
+Tells s at d q (Ok (T.Holds n from d')) = (d' < d) × ((at < from) × (q ≡ shift from (items (value d') n (drop from s))))
+Tells s at d q (Err p) = Err p ≡ q
 
 -- an item that is read tells the answer
-abbrev pub Reads : Bytes → Read → Item → Type 0
-Reads s q (I.Past e) = Whole e ≡ q
-Reads s q (I.Headed h e) = (Whole e ≡ q) × Heads s h e
-Reads s q (I.Fails p) = Broken p ≡ q
+abbrev pub Reads : Bytes → Read → Result Item ℕ → Type 0
+Reads s q (Ok (I.Past e)) = Ok e ≡ q
+Reads s q (Ok (I.Headed h e)) = (Ok e ≡ q) × Heads s h e
+Reads s q (Err p) = Err p ≡ q
 
 -- each byte from a place up to another begins an array of one
 pub record Ones (s : Bytes) (at end : ℕ) : Type 0 where

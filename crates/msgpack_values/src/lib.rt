@@ -8,13 +8,9 @@ ghost use Rattle.msgpack_values.specs.Value.{shift, payload, sized, items, value
 ghost use Rattle.msgpack_values.specs.Spoiled.{place_of, spoiled_at};
 ghost use Rattle.msgpack_values.specs.Tokens.{first_byte_entry, Width, Counts, values_of, token_of, Heads, Tells, Reads, Ones, Inside, Same, Ran};
 
-// Whole, with the place of the first byte after it; or broken, with the place of the first
+// A whole value's end, the place of the first byte after it; of a broken one the place of the first
 // spoiling byte: an unused first byte, a container one too deep, or the end of the bytes.
-#[derive(Clone, Copy)]
-pub enum Read {
-    Whole(usize),
-    Broken(usize),
-}
+pub type Read = Result<usize, usize>;
 
 // A number that may be absent; then it is all 0.
 #[repr(C)]
@@ -30,22 +26,19 @@ pub const NO_PLACE: OptionalNumber = OptionalNumber {
 };
 
 // What stands at a place, as far as its first bytes tell: a value, with the place after it, and of one with a
-// single length byte also that of its head; a container, with the number, place and depth of its values; or
-// what is broken.
+// single length byte also that of its head; a container, with the number, place and depth of its values.
 #[derive(Clone, Copy)]
 enum Token {
     Past(usize),
     Headed(usize, usize),
     Holds(usize, usize, usize),
-    Fails(usize),
 }
 
-// An item that is read: the place after it, and where its head stands, if others may have the same; or broken.
+// An item that is read: the place after it, and where its head stands, if others may have the same.
 #[derive(Clone, Copy)]
 enum Item {
     Past(usize),
     Headed(usize, usize),
-    Fails(usize),
 }
 
 // What is inside arrays of one: its place, the depth that it may have, the entry of its first byte.
@@ -115,16 +108,16 @@ fn told_scalar(s: &[u8], at: usize, due: usize) -> Read
     ensures { result ≡ shift (at + 1) (payload due (drop (at + 1) s.now)) }
 {
     if due == 0 {
-        return Read::Whole(at + 1);
+        return Ok(at + 1);
     }
     if s.len() - at <= due {
-        return Read::Broken(s.len());
+        return Err(s.len());
     }
     match due {
-        2 => Read::Whole(at + 3),
-        4 => Read::Whole(at + 5),
-        8 => Read::Whole(at + 9),
-        _ => Read::Whole(at + 1 + due),
+        2 => Ok(at + 3),
+        4 => Ok(at + 5),
+        8 => Ok(at + 9),
+        _ => Ok(at + 1 + due),
     }
 }
 
@@ -134,14 +127,14 @@ fn long_scalar(s: &[u8], at: usize, width: usize, more: usize) -> Read
     ensures { result ≡ shift (at + 1) (sized width (λ n t. payload (n + more) t) (drop (at + 1) s.now)) }
 {
     if s.len() - at <= width {
-        return Read::Broken(s.len());
+        return Err(s.len());
     }
     let due = length_at(s, at + 1, width) + more;
     let from = at + 1 + width;
     if s.len() - from < due {
-        return Read::Broken(s.len());
+        return Err(s.len());
     }
-    Read::Whole(from + due)
+    Ok(from + due)
 }
 
 // The number of values of the container at `at`, by its entry and its count bytes.
@@ -161,40 +154,40 @@ fn values_of(s: &[u8], at: usize, e: u16) -> usize
 }
 
 // A container at `at`, or no value.
-fn container_at(s: &[u8], at: usize, e: u16, depth: usize) -> Token
+fn container_at(s: &[u8], at: usize, e: u16, depth: usize) -> Result<Token, usize>
     requires { (e ≡ first_byte_entry s.now at) × (9 ≤ kind_digit e) }
     ensures { Tells s.now at depth (shift at (value depth (drop at s.now))) result }
 {
     if depth == 0 {
-        return Token::Fails(at);
+        return Err(at);
     }
     if e == UNUSED {
-        return Token::Fails(at);
+        return Err(at);
     }
     let width = (e >> 12) as usize;
     if s.len() - at <= width {
-        return Token::Fails(s.len());
+        return Err(s.len());
     }
-    Token::Holds(values_of(s, at, e), at + 1 + width, depth - 1)
+    Ok(Token::Holds(
+        values_of(s, at, e),
+        at + 1 + width,
+        depth - 1,
+    ))
 }
 
 // What stands at `at`, where its first byte alone does not tell its length.
-fn long_token(s: &[u8], at: usize, e: u16, depth: usize) -> Token
+fn long_token(s: &[u8], at: usize, e: u16, depth: usize) -> Result<Token, usize>
     requires { (e ≡ first_byte_entry s.now at) × (0x900 ≤ e) }
     ensures { Tells s.now at depth (shift at (value depth (drop at s.now))) result }
 {
     if ARRAY <= (e >> 8) % 16 {
         return container_at(s, at, e, depth);
     }
-    match long_scalar(s, at, (e >> 12) as usize, (e % 256) as usize) {
-        Read::Whole(next) => {
-            if e >> 12 == 1 {
-                return Token::Headed(at, next);
-            }
-            Token::Past(next)
-        }
-        Read::Broken(place) => Token::Fails(place),
+    let next = long_scalar(s, at, (e >> 12) as usize, (e % 256) as usize)?;
+    if e >> 12 == 1 {
+        return Ok(Token::Headed(at, next));
     }
+    Ok(Token::Past(next))
 }
 
 fn least(a: usize, b: usize) -> usize
@@ -251,8 +244,8 @@ fn inside_ones(s: &[u8], at: usize, depth: usize, e: u16) -> Inner
 {
     if e != ARRAY_OF_ONE {
         return Inner {
-            at: at,
-            depth: depth,
+            at,
+            depth,
             entry: e,
         };
     }
@@ -265,48 +258,38 @@ fn inside_ones(s: &[u8], at: usize, depth: usize, e: u16) -> Inner
     }
 }
 
-fn token_of(read: Read) -> Token
-    ensures { result ≡ token_of read }
-{
-    match read {
-        Read::Whole(next) => Token::Past(next),
-        Read::Broken(place) => Token::Fails(place),
-    }
-}
-
 // What stands at `at`.
-fn token_at(s: &[u8], at: usize, depth: usize) -> Token
+fn token_at(s: &[u8], at: usize, depth: usize) -> Result<Token, usize>
     ensures { Tells s.now at depth (shift at (value depth (drop at s.now))) result }
 {
     let e = first_byte_entry(s, at);
     if e < TOLD_END {
-        return token_of(told_scalar(s, at, (e % 256) as usize));
+        let end = told_scalar(s, at, (e % 256) as usize)?;
+        return Ok(Token::Past(end));
     }
     if s.len() <= at {
-        return Token::Fails(at);
+        return Err(at);
     }
     let inner = inside_ones(s, at, depth, e);
     if inner.entry < TOLD_END {
-        return token_of(told_scalar(s, inner.at, (inner.entry % 256) as usize));
+        let end = told_scalar(s, inner.at, (inner.entry % 256) as usize)?;
+        return Ok(Token::Past(end));
     }
     long_token(s, inner.at, inner.entry, inner.depth)
 }
 
 // One value, at `at`. Its slice is lent on by a copy, which is then made for a container alone.
 #[cycle(read_item_read_items)]
-fn read_item(s: &[u8], at: usize, depth: usize) -> Item
+fn read_item(s: &[u8], at: usize, depth: usize) -> Result<Item, usize>
     ensures { Reads s.now (shift at (value depth (drop at s.now))) result }
 {
-    match token_at(s, at, depth) {
-        Token::Past(next) => Item::Past(next),
-        Token::Headed(head, next) => Item::Headed(head, next),
-        Token::Fails(place) => Item::Fails(place),
+    match token_at(s, at, depth)? {
+        Token::Past(end) => Ok(Item::Past(end)),
+        Token::Headed(head, end) => Ok(Item::Headed(head, end)),
         Token::Holds(count, from, deep) => {
             let lent = s;
-            match read_items(lent, from, count, deep) {
-                Read::Whole(next) => Item::Past(next),
-                Read::Broken(place) => Item::Fails(place),
-            }
+            let end = read_items(lent, from, count, deep)?;
+            Ok(Item::Past(end))
         }
     }
 }
@@ -319,7 +302,7 @@ fn read_items(s: &[u8], at: usize, n: usize, depth: usize) -> Read
     let mut end = at;
     let mut left = n;
     while 0 < left {
-        match read_item(s, end, depth) {
+        match read_item(s, end, depth)? {
             Item::Past(next) => {
                 end = next;
                 left -= 1;
@@ -329,12 +312,9 @@ fn read_items(s: &[u8], at: usize, n: usize, depth: usize) -> Read
                 end = run.end;
                 left = run.left - 1;
             }
-            Item::Fails(place) => {
-                return Read::Broken(place);
-            }
         }
     }
-    Read::Whole(end)
+    Ok(end)
 }
 
 // Whether an item of `size` bytes with these first two stands at `at`, not the last one. The tests are one
@@ -366,7 +346,7 @@ fn same_heads(s: &[u8], at: usize, next: usize, left: usize) -> Run
         more = same_head(s, end, first, second, size, rest);
     }
     Run {
-        end: end,
+        end,
         left: rest,
     }
 }
@@ -379,7 +359,7 @@ pub fn read_value(s: &[u8], at: usize, depth: usize) -> Read
     if at < s.len() {
         let k = msgpack_first_bytes::common_length(s[at]);
         if (0 < k) & (k <= s.len() - at) {
-            return Read::Whole(at + k);
+            return Ok(at + k);
         }
     }
     let lent = s;
@@ -391,8 +371,8 @@ pub fn place_of(read: Read) -> OptionalNumber
     ensures { result ≡ place_of read }
 {
     match read {
-        Read::Whole(_) => NO_PLACE,
-        Read::Broken(place) => OptionalNumber {
+        Ok(_) => NO_PLACE,
+        Err(place) => OptionalNumber {
             present: true,
             value: place as u64,
         },

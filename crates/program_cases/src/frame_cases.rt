@@ -3,7 +3,6 @@ ghost use Rattle.std.specs.Prelude.{◌≤◌};
 
 use crate::text::{print, print_buffer, print_number};
 use frames::{Frame, Place};
-use msgpack_numbers::Number;
 use msgpack_values::OptionalNumber;
 
 pub(crate) fn print_optional(n: OptionalNumber) {
@@ -82,8 +81,8 @@ pub(crate) fn print_read(bytes: &[u8]) {
 
 fn number_in(record: &[u8], at: usize, width: usize) -> u64 {
     match msgpack_numbers::number_at(record, at, width) {
-        Number::Is(n) => n,
-        Number::Missing => 0,
+        Some(n) => n,
+        None => 0,
     }
 }
 

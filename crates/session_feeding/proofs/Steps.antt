@@ -1,4 +1,5 @@
 -- What each step of a feed says of the definition. Assumes nothing.
+use Rattle.std.specs.Prelude.{Ok, Err}
 use Rattle.std.proofs.Common.{◌≡◌, ℕ, ◌+◌, ◌-◌, ◌≤◌, min, Bool, not, eqb, ltb, leb, [], ◌∷◌, ◌++◌, length, take, sym, refl, ap, ◌∙◌, subst, ⊎_elim, arith, length-append, length-take-le, take_all, ne_eqb, le-leb}
 use borrow.Author.Tests.{lt-leb}
 use Rattle.msgpack_first_bytes.specs.Bytes.{Bytes}
@@ -8,7 +9,6 @@ use Rattle.msgpack_writing.proofs.Put.{wrote, through}
 use Rattle.frames.specs.Cascade.{check}
 use Rattle.frames.specs.Reading.{refuse, in_frame, size_of, by_size, frame_read}
 use Rattle.frames.specs.declared.FrameAnswer.{FrameAnswer}
-use Rattle.frames.specs.declared.Size.TheVariants.{Promises, Refused}
 use Rattle.sessions.specs.Session.{carry_room, settled_by, fed, kept, go_on, carried_on, view_of}
 use Rattle.sessions.specs.declared.Session.{Session}
 use Rattle.sessions.specs.declared.SessionAnswer.{SessionAnswer}
@@ -50,7 +50,7 @@ module _ (x y z : Bytes) {a b : ℕ} (h : length z ≡ 9) (ea : a ≡ min 9 (len
 -- ---- what a feed answers, and leaves
 
 module _ (b p : Bytes) where
-  module _ {n k : ℕ} (e : Refused n k ≡ size_of (b ++ p)) where
+  module _ {n k : ℕ} (e : Err (n, k) ≡ size_of (b ++ p)) where
     pub refused-stop : k ≡ settled_by (size_of (b ++ p))
     unfolding settled_by
     refused-stop = rw (← e)
@@ -63,14 +63,14 @@ module _ (b p : Bytes) where
     unfolding refuse
     refused_settled = ap (λ (a : FrameAnswer). not (eqb a.number 1)) refused-read
 
-  module _ {n k : ℕ} (e : Promises n k ≡ size_of (b ++ p)) where
+  module _ {n k : ℕ} (e : Ok (n, k) ≡ size_of (b ++ p)) where
     pub promised_stop : k + n ≡ settled_by (size_of (b ++ p))
     unfolding settled_by
     promised_stop = rw (← e)
 
     pub promised_few : k + n ≤ carry_room
     promised_few =
-        let t : Told (b ++ p) (Promises n k) = subst (Told (b ++ p)) (sym e) (size_told (b ++ p)) in
+        let t : Told (b ++ p) (Ok (n, k)) = subst (Told (b ++ p)) (sym e) (size_told (b ++ p)) in
         let i = t.0.1 in
         let j = t.1.few in
         omega arith
@@ -119,7 +119,7 @@ module _ (b p : Bytes) where
 
 -- the contents, from where the frame is shown
 pub promised_answer : (p c : Bytes) (held : ℕ) {n k u : ℕ} {d f : Bytes} {a : FrameAnswer} → held ≤ length c → carry_room ≤ length c
-    → Promises n k ≡ size_of (take held c ++ p) → u ≡ k + n - held → d ≡ kept held p (k + n) (leb u (length p)) c → f ≡ view_of (ltb 0 held) (k + n) p d
+    → Ok (n, k) ≡ size_of (take held c ++ p) → u ≡ k + n - held → d ≡ kept held p (k + n) (leb u (length p)) c → f ≡ view_of (ltb 0 held) (k + n) p d
     → a ≡ check (refuse 1) (leb u (length p)) (in_frame f k) → a ≡ frame_read (take held c ++ p)
 promised_answer p c held {n} {k} {u} {d} {f} {a} h room e eu ed ef ea =
     let b = take held c in

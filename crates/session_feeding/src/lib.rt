@@ -215,14 +215,14 @@ fn go_on(held: usize, piece: &[u8], carry: &mut [u8]) -> AtHand
         × (carry.new ≡ carried_on (take held carry.old) piece.now carry.old) }
 {
     match size_over(&carry[..held], piece) {
-        Size::Refused(number, stop) => {
+        Err((number, stop)) => {
             keep(held, piece, stop, number != 1, carry);
             AtHand {
                 stop,
                 answer: frame_reading::refused(number),
             }
         }
-        Size::Promises(size, from) => {
+        Ok((size, from)) => {
             let stop = from + size;
             let whole = above(stop, held) <= piece.len();
             keep(held, piece, stop, whole, carry);

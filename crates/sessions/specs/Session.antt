@@ -1,14 +1,12 @@
 -- A session. Document 02, 1/12: "a session that is fed bytes as they come and answers frame by frame, with the count of bytes it took."
-use Rattle.std.specs.Prelude.{ℕ, ◌+◌, ◌-◌, ◌%◌, ◌^◌, Bool, false, ◌&&◌, not, [], ◌++◌, ltb, eqb, length, take}
+use Rattle.std.specs.Prelude.{ℕ, ◌+◌, ◌-◌, ◌%◌, ◌^◌, Bool, false, ◌&&◌, not, [], ◌++◌, ltb, eqb, length, take, Ok, Err}
 use Rattle.msgpack_first_bytes.specs.Bytes.{Bytes, pick}
 use Rattle.msgpack_values.specs.Spoiled.{no_place}
 use Rattle.msgpack_values.specs.declared.OptionalNumber.{OptionalNumber}
 use Rattle.msgpack_writing.specs.Put.{put}
 use Rattle.frames.specs.Keys.{empty_frame}
-use Rattle.frames.specs.Reading.{size_of, frame_read}
+use Rattle.frames.specs.Reading.{size_of, frame_read, Size}
 use Rattle.frames.specs.declared.FrameAnswer.{FrameAnswer}
-use Rattle.frames.specs.declared.Size.{Size}
-use Rattle.frames.specs.declared.Size.TheVariants.{Promises, Refused}
 use Rattle.sessions.specs.declared.Session.{Session}
 use Rattle.sessions.specs.declared.SessionOpening.{SessionOpening}
 use Rattle.sessions.specs.declared.SessionAnswer.{SessionAnswer}
@@ -30,8 +28,8 @@ opening c = record { number = pick (ltb (length c) carry_room) 19 0; session = f
 
 -- "takes up to the byte that settles it: first for 2, size's last for 3, frame's last otherwise": how many bytes these are
 unfoldable pub settled_by : Size → ℕ
-settled_by (Promises n k) = k + n
-settled_by (Refused n k) = k
+settled_by (Ok (n, k)) = k + n
+settled_by (Err (n, k)) = k
 
 -- "repeats that answer, takes 0 bytes and changes nothing", its place too; 19 too takes and changes nothing
 unfoldable pub idle : ℕ → OptionalNumber → Session → SessionAnswer

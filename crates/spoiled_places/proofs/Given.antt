@@ -1,4 +1,5 @@
 -- Where a place is given. Assumes nothing.
+use Rattle.std.specs.Prelude.{Ok, Err}
 use mathlib.Core.Path.{◌≡◌, refl, sym, ap, ◌∙◌}
 use mathlib.Core.Bool.{Bool, true, false, ◌&&◌}
 use mathlib.Core.List.{List, [], ◌∷◌, ◌++◌}
@@ -8,18 +9,15 @@ use borrow.Author.Tests.{eq-eqb}
 use lib.Dec.{leb, ltb, eqb}
 use lib.ListN.{length, get_or, take, drop}
 use Rattle.msgpack_first_bytes.specs.Bytes.{Bytes, pick}
-use Rattle.msgpack_values.specs.Value.{value}
+use Rattle.msgpack_values.specs.Value.{value, Read}
 use Rattle.msgpack_values.specs.Spoiled.{no_place, at_place, spoiled_at}
 use Rattle.msgpack_values.specs.declared.OptionalNumber.{OptionalNumber}
-use Rattle.msgpack_values.specs.declared.Read.{Read}
-use Rattle.msgpack_values.specs.declared.Read.TheVariants.{Whole, Broken}
 use Rattle.msgpack_values.proofs.Spoiled.{spoiled-whole, spoiled-broken}
 use Rattle.msgpack_scalars.specs.declared.Int.{Int}
 use Rattle.msgpack_scalars.specs.declared.Int.TheVariants.{FromZero, BelowZero}
 use Rattle.msgpack_meanings.specs.Meaning.{alone_depth, alone_by, alone}
 use Rattle.frames.specs.Limits.{max_depth}
 use Rattle.frames.specs.Reading.{size_of, frame_read}
-use Rattle.frames.specs.declared.Size.TheVariants.{Promises}
 use Rattle.frames.proofs.Placed.{frame_promised, frame-placed, frame_of_value}
 use Rattle.sessions.specs.Session.{carry_room, idle, fed, go_on, begun, feed_of}
 use Rattle.sessions.specs.declared.Session.{Session}
@@ -43,8 +41,8 @@ unfolding alone alone_by
 alone_exactly s = go (value alone_depth s) refl
   where
     go : (r : Read) → value alone_depth s ≡ r → ((alone_by r s).place ≡ spoiled_at alone_depth 0 s) × ((alone_by r s).place.present ≡ eqb (alone_by r s).number 4)
-    go (Whole n) e = (sym (spoiled-whole alone_depth s e), refl)
-    go (Broken p) e = (refl, ap (λ (x : OptionalNumber). x.present) (spoiled-broken alone_depth 0 s e))
+    go (Ok n) e = (sym (spoiled-whole alone_depth s e), refl)
+    go (Err p) e = (refl, ap (λ (x : OptionalNumber). x.present) (spoiled-broken alone_depth 0 s e))
 
 feed_exactly : (s : Session) (p c : Bytes) → s.refused ≡ 0 → (feed_of s p c).place.present ≡ eqb (feed_of s p c).number 4
 unfolding feed_of go_on fed idle
@@ -55,10 +53,10 @@ feed_exactly s p c h = go (ltb (length c) carry_room)
     go true = refl
     go false = rw (eq-eqb s.refused 0 h) (frame-placed (begun s c ++ p)).exactly
 
-frame-inside : (s : Bytes) (n k : ℕ) → size_of s ≡ Promises n k → (frame_read s).place.present ≡ true → (k ≤ (frame_read s).place.value) × ((frame_read s).place.value ≤ k + n)
+frame-inside : (s : Bytes) (n k : ℕ) → size_of s ≡ Ok (n, k) → (frame_read s).place.present ≡ true → (k ≤ (frame_read s).place.value) × ((frame_read s).place.value ≤ k + n)
 frame-inside s n k e h = let x = frame_promised s n k e in (x.past h, x.within)
 
-frame-first : (s : Bytes) (n k p : ℕ) → size_of s ≡ Promises n k → (frame_read s).place ≡ at_place p
+frame-first : (s : Bytes) (n k p : ℕ) → size_of s ≡ Ok (n, k) → (frame_read s).place ≡ at_place p
     → (from : ℕ) × (q : ℕ) × Begins (take (k + n) s) k from × (p ≡ from + q) × FirstSpoiling max_depth (drop from (take (k + n) s)) q
 frame-first s n k p e h =
     let (from, b, v) = frame_of_value s n k e p h in

@@ -1,4 +1,5 @@
 -- Reading operations: what each one that is read brings, and that an operation of an undo list is read back. Assumes nothing.
+use Rattle.std.specs.Prelude.{Ok, Err}
 use mathlib.Core.Path.{◌≡◌, refl, sym, ap, subst}
 use mathlib.Core.Bool.{Bool, true, false, ◌&&◌}
 use mathlib.Core.List.{List, [], ◌∷◌, ◌++◌, append_assoc}
@@ -10,10 +11,8 @@ use lib.Dec.{leb, eqb}
 use lib.ListN.{length}
 use lib.Seq.{take-append_seam, drop-append_seam}
 use Rattle.msgpack_first_bytes.specs.Bytes.{Bytes, pick}
-use Rattle.msgpack_values.specs.Value.{value}
+use Rattle.msgpack_values.specs.Value.{value, Read}
 use Rattle.msgpack_values.specs.Pieces.{joined, Single}
-use Rattle.msgpack_values.specs.declared.Read.{Read}
-use Rattle.msgpack_values.specs.declared.Read.TheVariants.{Whole, Broken}
 use Rattle.msgpack_scalars.specs.declared.Int.{Int}
 use Rattle.msgpack_scalars.specs.declared.Int.TheVariants.{FromZero}
 use Rattle.msgpack_writing.specs.Forms.{unsigned_form, string_header, array_header}
@@ -74,8 +73,8 @@ unfolding any_value value_from
 value_yields s = go (value field_depth s) refl
   where
     go : (r : Read) → value field_depth s ≡ r → Of (Single (value field_depth)) (value_from r s)
-    go (Whole k) e = single_take field_depth s k e
-    go (Broken p) e = tt
+    go (Ok k) e = single_take field_depth s k e
+    go (Err p) e = tt
 
 -- a field that an action brings as it is is one whole value
 abbrev pub Fine : Action → Type 0

@@ -1,4 +1,5 @@
 -- A tuple's bytes and its fields. Assumes nothing.
+use Rattle.std.specs.Prelude.{Some, None, Ok, Err}
 use mathlib.Core.Path.{◌≡◌, refl, ap, ◌∙◌, subst}
 use mathlib.Core.Bool.{Bool, true, false}
 use mathlib.Core.List.{[], ◌∷◌, ◌++◌, append-nil}
@@ -12,18 +13,12 @@ use lib.Seq.{take-length, drop-append_seam}
 use Rattle.msgpack_first_bytes.specs.Bytes.{Bytes, pick}
 use Rattle.msgpack_first_bytes.specs.FirstByte.{form_of}
 use Rattle.msgpack_numbers.specs.Number.{number}
-use Rattle.msgpack_values.specs.Value.{value, items}
+use Rattle.msgpack_values.specs.Value.{value, items, Read}
 use Rattle.msgpack_values.specs.Pieces.{pieces, joined, Each}
-use Rattle.msgpack_values.specs.declared.Read.{Read}
-use Rattle.msgpack_values.specs.declared.Read.TheVariants.{Whole, Broken}
 use Rattle.msgpack_values.proofs.Local.{value_good}
 use Rattle.msgpack_values.proofs.Pieces.{pieces-joined, items-joined}
-use Rattle.msgpack_scalars.specs.Header.{counted, header}
-use Rattle.msgpack_scalars.specs.Start.{array_by}
-use Rattle.msgpack_scalars.specs.declared.Start.{Start}
-use Rattle.msgpack_scalars.specs.declared.Start.TheVariants.{Here, Elsewhere}
-use Rattle.msgpack_scalars.specs.declared.Header.{Header}
-use Rattle.msgpack_scalars.specs.declared.Header.TheVariants.{Is, Other}
+use Rattle.msgpack_scalars.specs.Header.{counted, header, Header}
+use Rattle.msgpack_scalars.specs.Start.{array_by, Start}
 use Rattle.msgpack_writing.specs.Forms.{big_endian, array_header}
 use Rattle.msgpack_read_back.proofs.Back.{array-header-back}
 use Rattle.msgpack_first_bytes.proofs.Logic.{impossible, by_eqb}
@@ -39,19 +34,19 @@ use Rattle.tuples.proofs.Legal.{Legal, plain-length}
 
 -- 16 fields and more take two count bytes at least
 abbrev enough : Start → Bool
-enough (Here w f) = pick (eqb w 0) (leb f 15) (leb 2 w)
-enough Elsewhere = true
+enough (Some (w, f)) = pick (eqb w 0) (leb f 15) (leb 2 w)
+enough None = true
 
 array-wide : (b : ℕ) → T (enough (array_by (form_of b)))
 unfolding form_of
 array-wide = each_form (λ h. enough (array_by h)) tt
 
-pub array-short : (t : Bytes) (n e : ℕ) → n < 2 ^ 16 → header array_by t ≡ Is n e → (length (array_header n) ≤ e) × (e ≤ length t)
+pub array-short : (t : Bytes) (n e : ℕ) → n < 2 ^ 16 → header array_by t ≡ Some (n, e) → (length (array_header n) ≤ e) × (e ≤ length t)
 unfolding header counted number array_header big_endian
 array-short [] n e l h = impossible (cc)
 array-short (b ∷ s) n e l h = by_start (array_by (form_of b)) (array-wide b) h
   where
-    by_count : (w f : ℕ) → T (enough (Here w f)) → (t : Bool) → leb w (length s) ≡ t → pick t (Is (number (take w s) + f) (1 + w)) Other ≡ Is n e
+    by_count : (w f : ℕ) → T (enough (Some (w, f))) → (t : Bool) → leb w (length s) ≡ t → pick t (Some (number (take w s) + f, 1 + w)) None ≡ Some (n, e)
         → (length (array_header n) ≤ e) × (e ≤ suc (length s))
     by_count w f r true q h =
         let k = leb-true w (length s) q in
@@ -65,9 +60,9 @@ array-short (b ∷ s) n e l h = by_start (array_by (form_of b)) (array-wide b) h
         )
     by_count w f r false q h = impossible (cc)
 
-    by_start : (x : Start) → T (enough x) → counted x s ≡ Is n e → (length (array_header n) ≤ e) × (e ≤ suc (length s))
-    by_start (Here w f) r h = by_count w f r (leb w (length s)) refl h
-    by_start Elsewhere r h = impossible (cc)
+    by_start : (x : Start) → T (enough x) → counted x s ≡ Some (n, e) → (length (array_header n) ≤ e) × (e ≤ suc (length s))
+    by_start (Some (w, f)) r h = by_count w f r (leb w (length s)) refl h
+    by_start None r h = impossible (cc)
 
 -- ---- what `fields_of` says
 
@@ -82,8 +77,8 @@ unfolding fields_filling filling
 values-filled n s fs h = go (items (value field_depth) n s) refl h
   where
     go : (r : Read) → items (value field_depth) n s ≡ r → filling r (length s) (pieces (value field_depth) n s) ≡ some fs → Filled n s fs
-    go (Broken p) e h = impossible (cc)
-    go (Whole k) e h =
+    go (Err p) e h = impossible (cc)
+    go (Ok k) e h =
         let (t, q) = guarded (eqb k (length s)) (some (pieces (value field_depth) n s)) fs h in
         let p : pieces (value field_depth) n s ≡ fs = cc in
         let l : k ≡ length s = eqb-true k (length s) t in
@@ -97,8 +92,8 @@ fields-legal t fs h =
     go (leb-true _ _ b) (header array_by t) refl e
   where
     go : length t ≤ max_tuple → (g : Header) → header array_by t ≡ g → fields_by g t ≡ some fs → Legal fs
-    go l Other q e = impossible (cc)
-    go l (Is n k) q e =
+    go l None q e = impossible (cc)
+    go l (Some (n, k)) q e =
         let (b, v) = guarded (leb n max_fields) (fields_filling n (drop k t)) fs e in
         let f = values-filled n (drop k t) fs v in
         let few : n ≤ max_fields = leb-true _ _ b in
@@ -116,8 +111,8 @@ fields-short t fs h =
     (leb-true _ _ b, go (header array_by t) e)
   where
     go : (g : Header) → fields_by g t ≡ some fs → length (joined fs) ≤ length t
-    go Other e = impossible (cc)
-    go (Is n k) e =
+    go None e = impossible (cc)
+    go (Some (n, k)) e =
         let (b, v) = guarded (leb n max_fields) (fields_filling n (drop k t)) fs e in
         let j : length (joined fs) ≡ length t - k = ap length (values-filled n (drop k t) fs v).join ∙ length-drop k t in
         omega arith
@@ -127,10 +122,10 @@ fields-short t fs h =
 pub read_plain : (fs : Fields) → Legal fs → fields_of (plain fs) ≡ some fs
 unfolding fields_of fields_by fields_filling filling
 read_plain fs g =
-    let h : header array_by (plain fs) ≡ Is (length fs) (length (array_header (length fs))) = unfold plain in array-header-back (length fs) (joined fs) (omega arith) in
+    let h : header array_by (plain fs) ≡ Some (length fs, length (array_header (length fs))) = unfold plain in array-header-back (length fs) (joined fs) (omega arith) in
     let d : drop (length (array_header (length fs))) (plain fs) ≡ joined fs = unfold plain in drop-append_seam (array_header (length fs)) (joined fs) in
     let (i, p) = items-joined (value field_depth) (value_good field_depth) g.whole [] in
     rw (le-leb _ _ g.fit.short, h) (rw (le-leb _ _ g.fit.few, d) (filled i p))
   where
-    filled : items (value field_depth) (length fs) (joined fs ++ []) ≡ Whole (length (joined fs)) → pieces (value field_depth) (length fs) (joined fs ++ []) ≡ fs → fields_filling (length fs) (joined fs) ≡ some fs
+    filled : items (value field_depth) (length fs) (joined fs ++ []) ≡ Ok (length (joined fs)) → pieces (value field_depth) (length fs) (joined fs ++ []) ≡ fs → fields_filling (length fs) (joined fs) ≡ some fs
     filled i p = rw (rw append-nil at i, rw append-nil at p, eq-eqb (length (joined fs)) (length (joined fs)) refl)

@@ -1,19 +1,14 @@
 -- The parts of which an operation is read, each at the front of bytes.
-use Rattle.std.specs.Prelude.{ℕ, ◌+◌, ◌-◌, [], ◌∷◌, leb, eqb, length, take, drop}
+use Rattle.std.specs.Prelude.{ℕ, ◌+◌, ◌-◌, [], ◌∷◌, leb, eqb, length, take, drop, Some, None, Ok, Err}
 use Rattle.msgpack_first_bytes.specs.Bytes.{Bytes, pick}
-use Rattle.msgpack_values.specs.Value.{value}
-use Rattle.msgpack_values.specs.declared.Read.{Read}
-use Rattle.msgpack_values.specs.declared.Read.TheVariants.{Whole, Broken}
-use Rattle.msgpack_scalars.specs.Integer.{integer}
+use Rattle.msgpack_values.specs.Value.{value, Read}
+use Rattle.msgpack_scalars.specs.Integer.{integer, Integer}
 use Rattle.msgpack_scalars.specs.Start.{string_by, array_by}
-use Rattle.msgpack_scalars.specs.Header.{header}
+use Rattle.msgpack_scalars.specs.Header.{header, Header}
 use Rattle.msgpack_scalars.specs.declared.Int.{Int}
 use Rattle.msgpack_scalars.specs.declared.Int.TheVariants.{FromZero, BelowZero}
-use Rattle.msgpack_scalars.specs.declared.Integer.{Integer}
-use Rattle.msgpack_scalars.specs.declared.Integer.TheVariants.{Is as IsInt, Cut, Other as OtherInt}
-use Rattle.msgpack_scalars.specs.declared.Header.{Header}
-use Rattle.msgpack_scalars.specs.declared.Header.TheVariants.{Is, Other}
 use Rattle.tuples.specs.Limits.{field_depth}
+use Rattle.msgpack_scalars.specs.declared.NoNumber.TheVariants.{Cut, Other}
 
 -- what was asked for is not there; or what was read, and the bytes after it
 pub data Got (A : Type 0) : Type 0 where
@@ -40,17 +35,17 @@ module _ {A : Type 0} where
   nothing s = fails
 
 unfoldable pub value_from : Read → Bytes → Got Bytes
-value_from (Whole k) s = gets (take k s) (drop k s)
-value_from (Broken p) s = fails
+value_from (Ok k) s = gets (take k s) (drop k s)
+value_from (Err p) s = fails
 
 -- "any value at most 12 deep", as its own bytes
 unfoldable pub any_value : Decoder Bytes
 any_value s = value_from (value field_depth s) s
 
 unfoldable pub integer_from : Integer → Bytes → Got Int
-integer_from (IsInt z e) s = gets z (drop e s)
-integer_from Cut s = fails
-integer_from OtherInt s = fails
+integer_from (Ok (z, e)) s = gets z (drop e s)
+integer_from (Err Cut) s = fails
+integer_from (Err Other) s = fails
 
 unfoldable pub any_integer : Decoder Int
 any_integer s = integer_from (integer s) s
@@ -73,16 +68,16 @@ unfoldable pub position : ℕ → Decoder ℕ
 position base = then any_integer (λ z. floor 0 (less base z))
 
 unfoldable pub string_from : Header → Bytes → Got Bytes
-string_from (Is n e) s = pick (leb (e + n) (length s)) (gets (take n (drop e s)) (drop (e + n) s)) fails
-string_from Other s = fails
+string_from (Some (n, e)) s = pick (leb (e + n) (length s)) (gets (take n (drop e s)) (drop (e + n) s)) fails
+string_from None s = fails
 
 -- a string, as the bytes that it holds
 unfoldable pub string : Decoder Bytes
 string s = string_from (header string_by s) s
 
 unfoldable pub count_from : Header → Bytes → Got ℕ
-count_from (Is n e) s = gets n (drop e s)
-count_from Other s = fails
+count_from (Some (n, e)) s = gets n (drop e s)
+count_from None s = fails
 
 -- an array's header of any width, as its count
 unfoldable pub count : Decoder ℕ

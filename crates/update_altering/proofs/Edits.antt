@@ -1,4 +1,5 @@
 -- A field altered alone, as the edit of a tuple, and as the answer. Assumes nothing.
+use Rattle.std.specs.Prelude.{Ok, Err}
 use mathlib.Core.Path.{◌≡◌, refl, ap, ◌∙◌}
 use mathlib.Core.Bool.{true, false}
 use mathlib.Core.List.{[], ◌∷◌}
@@ -18,10 +19,10 @@ use Rattle.tuples.specs.declared.Refusal.{Refusal, TheVariants.NoField, TheVaria
 use Rattle.update_operations.specs.Found.{change_in}
 use Rattle.update_operations.specs.declared.Bitwise.{TheVariants.And, TheVariants.Xor, TheVariants.Or}
 use Rattle.update_operations.specs.declared.Change.{Change, TheVariants.Sum, TheVariants.Bits, TheVariants.Splice}
-use Rattle.update_altering.specs.Altering.{changed, Alters}
+use Rattle.update_altering.specs.Altering.{changed, Alters, Altered}
 use Rattle.update_altering.specs.Splicing.{Writes}
 use Rattle.update_places.specs.Place.{start_of, length_of, bytes_from, bytes_at}
-use Rattle.update_altering.specs.declared.Altered.{Altered, TheVariants.Is, TheVariants.Refused, TheVariants.Full}
+use Rattle.update_altering.specs.declared.Obstacle.TheVariants.{Full, Refused}
 
 -- ---- the edit of the field alone, as that of field f
 
@@ -91,16 +92,16 @@ only_puts l x e field = (moves l e 0 [] x).puts field
 -- ---- a new field's answer
 
 module _ (b work : Bytes) (used : ℕ) where
-  pub put_large : max_tuple < length b → Alters (put 0 b) used (Refused TooLarge) work work
+  pub put_large : max_tuple < length b → Alters (put 0 b) used (Err (Refused TooLarge)) work work
   put_large h = rw (lt-leb (length b) max_tuple h) (refl, refl)
 
   module _ (h : length b ≤ max_tuple) where
-    pub put_full : length work < used + length b → Alters (put 0 b) used Full work work
+    pub put_full : length work < used + length b → Alters (put 0 b) used (Err Full) work work
     put_full k = rw (le-leb (length b) max_tuple h, lt-leb (used + length b) (length work) k) (refl, (refused work used b k).1)
 
-    pub put_is : used + length b ≤ length work → {r : ℕ} {left : Bytes} → Writes used b r work left → Alters (put 0 b) used (Is r) work left
+    pub put_is : used + length b ≤ length work → {r : ℕ} {left : Bytes} → Writes used b r work left → Alters (put 0 b) used (Ok r) work left
     unfolding next
-    put_is k w = rw (le-leb (length b) max_tuple h, le-leb (used + length b) (length work) k) (ap Is (w.0 ∙ rw (le-leb (used + length b) (length work) k)), w.1)
+    put_is k w = rw (le-leb (length b) max_tuple h, le-leb (used + length b) (length work) k) (ap Ok (w.0 ∙ rw (le-leb (used + length b) (length work) k)), w.1)
 
 -- a change of the field at a place, which was read where it stands
 module _ (t l w : Bytes) (used old e : ℕ) {at size : ℕ} {taken : Bytes} (i : at ≡ start_of old) (j : size ≡ length_of old) (k : taken ≡ take used w) where

@@ -1,4 +1,5 @@
 -- Computed numbers, written behind the bytes that are in use. Assumes nothing.
+use Rattle.std.specs.Prelude.{Ok, Err}
 use mathlib.Core.Path.{◌≡◌, ◌∙◌}
 use mathlib.Core.Logic.{⊎_elim}
 use Prim.Native.Nat.{ℕ, ◌+◌, ◌<◌, ◌≤◌}
@@ -16,8 +17,8 @@ use Rattle.tuples.specs.Limits.{max_tuple}
 use Rattle.tuples.specs.Edit.{put}
 use Rattle.update_altering.specs.Altering.{Alters}
 use Rattle.update_altering.specs.Splicing.{Writes}
-use Rattle.update_altering.specs.declared.Altered.TheVariants.{Is, Full}
 use Rattle.update_altering.proofs.Edits.{put_full, put_is}
+use Rattle.update_altering.specs.declared.Obstacle.TheVariants.{Full}
 
 integer-long : (z : Int) → InRange z → Long 9 (integer_form z)
 integer-long (FromZero n) h = unsigned-long n
@@ -38,10 +39,10 @@ module _ (z : Int) (work : Bytes) (used : ℕ) (i : InRange z) {e : ℕ} {left :
   unfolding next Writing.put
   none_left k = (h.0 ∙ rw (lt-leb (used + length b) (length work) k), h.1 ∙ rw (lt-leb (used + length b) (length work) k))
 
-  pub number-none : e ≡ used → Alters (put 0 b) used Full work left
+  pub number-none : e ≡ used → Alters (put 0 b) used (Err Full) work left
   number-none q =
       ⊎_elim (λ k. let r = room k in let l = integer-long z i in absurd (omega arith)) (λ k. rw (none_left k).1 (put_full b work used few k))
       (either (used + length b) (length work))
 
-  pub number_is : (e ≡ used → ⊥) → Alters (put 0 b) used (Is e) work left
+  pub number_is : (e ≡ used → ⊥) → Alters (put 0 b) used (Ok e) work left
   number_is q = ⊎_elim (λ k. put_is b work used few k h) (λ k. absurd (q (none_left k).0)) (either (used + length b) (length work))

@@ -1,4 +1,5 @@
 -- Spliced strings: where the old one stands, how its pieces are copied, and what they make. Assumes nothing.
+use Rattle.std.specs.Prelude.{Some, None, Ok, Err, Option}
 use mathlib.Core.Path.{◌≡◌, refl, sym, ap, ◌∙◌, subst}
 use mathlib.Core.List.{[], ◌∷◌, ◌++◌, append_assoc}
 use mathlib.Core.Logic.{⊎_elim}
@@ -22,15 +23,14 @@ use Rattle.tuples.specs.Edit.{Edit, refuse, put, spliced, became, suited, altere
 use Rattle.tuples.specs.Limits.{max_tuple}
 use Rattle.tuples.specs.declared.Refusal.TheVariants.{Unsuited, TooLarge}
 use Rattle.update_parts.specs.Part.{part, span_by}
-use Rattle.update_parts.specs.declared.Span.{Span, TheVariants.Is as IsSpan, TheVariants.Bad as NoSpan}
 use Rattle.update_parts.proofs.Leaving.{leaving_string, span_in, span_back, span_order}
 use Rattle.update_places.specs.Place.{in_list, in_work, bytes_from}
 use Rattle.update_places.proofs.Runs.{by_source, from-tuple, from_list, from-work}
 use Rattle.update_places.proofs.Kept.{drop-take}
-use Rattle.update_altering.specs.Altering.{Alters}
+use Rattle.update_altering.specs.Altering.{Alters, Altered}
 use Rattle.update_altering.specs.Splicing.{cut_by, Fits, Writes}
-use Rattle.update_altering.specs.declared.Altered.{Altered, TheVariants.Is, TheVariants.Refused, TheVariants.Full}
 use Rattle.update_altering.proofs.Edits.{put_large, put_full, put_is}
+use Rattle.update_altering.specs.declared.Obstacle.TheVariants.{Full, Refused}
 
 -- ---- a copy to a place behind: what is read has not been written
 
@@ -205,15 +205,15 @@ pub record Cut (p k : ℕ) (argument field : Bytes) (a e after rest : ℕ) : Typ
   pub long : length (string_form (cut_by a (e - a - after) argument (e - rest) rest field)) ≡ length (string_header (e - a - after + (length argument + rest))) + (e - a - after + (length argument + rest))
   pub edit : put 0 (string_form (cut_by a (e - a - after) argument (e - rest) rest field)) ≡ edit_at (splice p k argument) 0 (field ∷ [])
 
-module _ (p k : ℕ) (argument field : Bytes) {r : Span} (h : r ≡ span_by field (string field)) where
-  told : {x : Span} → r ≡ x → splice_by p k argument (span_in field x) ≡ edit_at (splice p k argument) 0 (field ∷ [])
+module _ (p k : ℕ) (argument field : Bytes) {r : (Option (ℕ × ℕ))} (h : r ≡ span_by field (string field)) where
+  told : {x : (Option (ℕ × ℕ))} → r ≡ x → splice_by p k argument (span_in field x) ≡ edit_at (splice p k argument) 0 (field ∷ [])
   told q = ap (splice_by p k argument) (ap (span_in field) (sym q ∙ h) ∙ span_back field (string field) (leaving_string.leaves field)) ∙ splice-read p k argument field
 
-  pub splice_unsuited : r ≡ NoSpan → refuse Unsuited ≡ edit_at (splice p k argument) 0 (field ∷ [])
+  pub splice_unsuited : r ≡ None → refuse Unsuited ≡ edit_at (splice p k argument) 0 (field ∷ [])
   unfolding splice_by suited
   splice_unsuited q = told q
 
-  pub splice-is : {a e after rest : ℕ} → r ≡ IsSpan a e → after ≡ e - a - p → rest ≡ after - k → Cut p k argument field a e after rest
+  pub splice-is : {a e after rest : ℕ} → r ≡ Some (a, e) → after ≡ e - a - p → rest ≡ after - k → Cut p k argument field a e after rest
   unfolding splice_by suited became spliced
   splice-is {a} {e} {after} {rest} q i j =
       let o = span_order field (string field) (sym q ∙ h) in
@@ -240,12 +240,12 @@ module _ {p k : ℕ} {argument field : Bytes} {a e after rest : ℕ} (cut : Cut 
   abbrev Splices : Altered → Bytes → Type 0
   Splices r left = Alters (edit_at (splice p k argument) 0 (field ∷ [])) used r work left
 
-  pub splice_large : max_tuple < length (string_header n) + n → Splices (Refused TooLarge) work
+  pub splice_large : max_tuple < length (string_header n) + n → Splices (Err (Refused TooLarge)) work
   splice_large h = rw (← cut.edit) (put_large whole work used (let l = cut.long in omega arith))
 
   module _ (h : length (string_header n) + n ≤ max_tuple) where
-    pub splice_full : length work < used + (length (string_header n) + n) → Splices Full work
+    pub splice_full : length work < used + (length (string_header n) + n) → Splices (Err Full) work
     splice_full i = let l = cut.long in rw (← cut.edit) (put_full whole work used (omega arith) (omega arith))
 
-    pub splice-put : used + (length (string_header n) + n) ≤ length work → {r : ℕ} {left : Bytes} → Writes used whole r work left → Splices (Is r) left
+    pub splice-put : used + (length (string_header n) + n) ≤ length work → {r : ℕ} {left : Bytes} → Writes used whole r work left → Splices (Ok r) left
     splice-put i w = let l = cut.long in rw (← cut.edit) (put_is whole work used (omega arith) (omega arith) w)

@@ -19,19 +19,20 @@ use msgpack_scalars::Int;
 use tuples::{MAX_TUPLE, Refusal};
 use update_computing::Computed;
 use update_operations::Change;
-use update_parts::Span;
 use update_places::{IN_LIST, IN_WORK};
 
 // Where the new field ends in the work array; why there is none; or it has no room there.
-#[derive(Clone, Copy)]
-pub enum Altered {
-    Is(usize),
+// Why an operation does nothing: it is refused; or the work array has no room for what it makes.
+#[derive(Clone, Copy, PartialEq, Eq)]
+pub enum Obstacle {
     Refused(Refusal),
     Full,
 }
 
+pub type Altered = Result<usize, Obstacle>;
+
 // The string that stands at `at`.
-fn string_in(tuple: &[u8], list: &[u8], work: &[u8], at: usize, size: usize) -> Span
+fn string_in(tuple: &[u8], list: &[u8], work: &[u8], at: usize, size: usize) -> Option<(usize, usize)>
     ensures { result ≡ span_by (bytes_from tuple.now list.now work.now at size) (string (bytes_from tuple.now list.now work.now at size)) }
 {
     if at < IN_LIST {
@@ -59,9 +60,9 @@ fn put_number(z: Int, work: &mut [u8], used: usize) -> Altered
 {
     let end = write_number(z, work, used);
     if end == used {
-        return Altered::Full;
+        return Err(Obstacle::Full);
     }
-    Altered::Is(end)
+    Ok(end)
 }
 
 fn put_computed(c: Computed, work: &mut [u8], used: usize) -> Altered
@@ -69,8 +70,8 @@ fn put_computed(c: Computed, work: &mut [u8], used: usize) -> Altered
     ensures { Alters (computed_edit c) used result work.old work.new }
 {
     match c {
-        Computed::Is(z) => put_number(z, work, used),
-        Computed::Refused(refusal) => Altered::Refused(refusal),
+        Ok(z) => put_number(z, work, used),
+        Err(refusal) => Err(Obstacle::Refused(refusal)),
     }
 }
 
@@ -162,24 +163,24 @@ fn splice(
     ensures { Alters (edit_at (splice position count argument.now) 0 (bytes_from tuple.now list.now (take used work.old) at size ∷ [])) used result work.old work.new }
 {
     let taken = update_places::part_of(work, 0, used);
-    let Span::Is(from, to) = string_in(tuple, list, taken, at, size) else {
-        return Altered::Refused(Refusal::Unsuited);
+    let Some((from, to)) = string_in(tuple, list, taken, at, size) else {
+        return Err(Obstacle::Refused(Refusal::Unsuited));
     };
     let after = behind(to - from, position);
     let rest = behind(after, count);
     let n = to - from - after;
     let length = n + (argument.len() + rest);
     if MAX_TUPLE < length {
-        return Altered::Refused(Refusal::TooLarge);
+        return Err(Obstacle::Refused(Refusal::TooLarge));
     }
     let long = msgpack_writing::string_header_length(length as u32) + length;
     if MAX_TUPLE < long {
-        return Altered::Refused(Refusal::TooLarge);
+        return Err(Obstacle::Refused(Refusal::TooLarge));
     }
     if behind(work.len(), used) < long {
-        return Altered::Full;
+        return Err(Obstacle::Full);
     }
-    Altered::Is(put_string(
+    Ok(put_string(
         tuple,
         list,
         work,

@@ -1,4 +1,5 @@
 -- Computed numbers: summed, and bit by bit. Assumes nothing.
+use Rattle.std.specs.Prelude.{Some, None, Ok, Err, Option}
 use mathlib.Core.Path.{◌≡◌, refl, sym, ap, ◌∙◌, subst}
 use mathlib.Core.Bool.{Bool, true, false}
 use Prim.Native.Nat.{ℕ, ◌^◌, ◌<◌}
@@ -12,32 +13,28 @@ use Rattle.tuples.specs.Decoding.{Got, fails, gets, any_integer, at_least}
 use Rattle.tuples.specs.Edit.{Edit, refuse, put, asℤ, ranged, became, suited, altered, edit_at}
 use Rattle.tuples.specs.declared.Refusal.TheVariants.{Unsuited, OutOfRange}
 use Rattle.update_parts.specs.Part.{signed_by, natural_by}
-use Rattle.update_parts.specs.declared.Signed.{Signed, TheVariants.Is as IsSigned, TheVariants.Bad as NoSigned}
-use Rattle.update_parts.specs.declared.Natural.{Natural, TheVariants.Is as IsNatural, TheVariants.Bad as NoNatural}
 use Rattle.update_operations.specs.declared.Bitwise.{Bitwise, TheVariants.And, TheVariants.Xor, TheVariants.Or}
 use Rattle.update_sums.specs.Range.{in_range}
-use Rattle.update_sums.specs.declared.Sum.{Sum, TheVariants.Is as IsSum, TheVariants.OutOfRange as NoSum}
-use Rattle.update_computing.specs.Computing.{bitwise_of, bits_edit, sum_edit, Computes}
-use Rattle.update_computing.specs.declared.Computed.{Computed, TheVariants.Is as IsComputed, TheVariants.Refused as NoComputed}
+use Rattle.update_computing.specs.Computing.{bitwise_of, bits_edit, sum_edit, Computes, Computed}
 
 -- ---- sums and differences
 
-abbrev pub computed_by : Sum → Computed
-computed_by (IsSum z) = IsComputed z
-computed_by NoSum = NoComputed OutOfRange
+abbrev pub computed_by : Option Int → Computed
+computed_by (Some z) = Ok z
+computed_by None = Err OutOfRange
 
 sum-ranged : (k : ℤ) → Computes (became 0 (ranged k)) (computed_by (in_range k))
 unfolding in_range ranged became
-sum-ranged (pos n) = by_ltb (λ (s : Sum). Computes (became 0 (ranged (pos n))) (computed_by s)) n (2 ^ 64) (λ h. (rw (lt-ltb n (2 ^ 64) h), h)) (λ h. (rw (le-ltb n (2 ^ 64) h), tt))
-sum-ranged (negsuc m) = by_ltb (λ (s : Sum). Computes (became 0 (ranged (negsuc m))) (computed_by s)) m (2 ^ 63) (λ h. (rw (lt-ltb m (2 ^ 63) h), h)) (λ h. (rw (le-ltb m (2 ^ 63) h), tt))
+sum-ranged (pos n) = by_ltb (λ (s : (Option Int)). Computes (became 0 (ranged (pos n))) (computed_by s)) n (2 ^ 64) (λ h. (rw (lt-ltb n (2 ^ 64) h), h)) (λ h. (rw (le-ltb n (2 ^ 64) h), tt))
+sum-ranged (negsuc m) = by_ltb (λ (s : (Option Int)). Computes (became 0 (ranged (negsuc m))) (computed_by s)) m (2 ^ 63) (λ h. (rw (lt-ltb m (2 ^ 63) h), h)) (λ h. (rw (le-ltb m (2 ^ 63) h), tt))
 
 -- what `+` or `-` makes of the field that was read
-abbrev sum_of : Bool → Int → Signed → Edit
-sum_of less v (IsSigned z e) = became 0 (ranged (pick less (asℤ z -ℤ asℤ v) (asℤ z +ℤ asℤ v)))
-sum_of less v NoSigned = refuse Unsuited
+abbrev sum_of : Bool → Int → Option (Int × ℕ) → Edit
+sum_of less v (Some (z, e)) = became 0 (ranged (pick less (asℤ z -ℤ asℤ v) (asℤ z +ℤ asℤ v)))
+sum_of less v None = refuse Unsuited
 
-module _ (less : Bool) (v : Int) (field : Bytes) {r : Signed} (h : r ≡ signed_by field (any_integer field)) where
-  sum_told : {x : Signed} → r ≡ x → sum_edit less v field ≡ sum_of less v x
+module _ (less : Bool) (v : Int) (field : Bytes) {r : (Option (Int × ℕ))} (h : r ≡ signed_by field (any_integer field)) where
+  sum_told : {x : (Option (Int × ℕ))} → r ≡ x → sum_edit less v field ≡ sum_of less v x
   unfolding edit_at altered suited
   sum_told q = go less (any_integer field) refl ∙ ap (sum_of less v) (sym h ∙ q)
     where
@@ -47,23 +44,23 @@ module _ (less : Bool) (v : Int) (field : Bytes) {r : Signed} (h : r ≡ signed_
       go false fails e = rw e
       go false (gets z s) e = rw e
 
-  pub sum_unsuited : r ≡ NoSigned → Computes (sum_edit less v field) (NoComputed Unsuited)
+  pub sum_unsuited : r ≡ None → Computes (sum_edit less v field) (Err Unsuited)
   sum_unsuited q = (sum_told q, tt)
 
-  pub sum_is : {z : Int} {e : ℕ} → r ≡ IsSigned z e → {s t : Sum} → s ≡ in_range (pick less (asℤ z -ℤ asℤ v) (asℤ z +ℤ asℤ v)) → s ≡ t
+  pub sum_is : {z : Int} {e : ℕ} → r ≡ Some (z, e) → {s t : (Option Int)} → s ≡ in_range (pick less (asℤ z -ℤ asℤ v) (asℤ z +ℤ asℤ v)) → s ≡ t
       → Computes (sum_edit less v field) (computed_by t)
   sum_is {z} q {s} {t} i j =
       let k = sum-ranged (pick less (asℤ z -ℤ asℤ v) (asℤ z +ℤ asℤ v)) in
-      subst (λ (x : Sum). Computes (sum_edit less v field) (computed_by x)) (sym i ∙ j) (sum_told q ∙ k.0, k.1)
+      subst (λ (x : (Option Int)). Computes (sum_edit less v field) (computed_by x)) (sym i ∙ j) (sum_told q ∙ k.0, k.1)
 
 -- ---- bit by bit
 
-abbrev bits_of : Bitwise → ℕ → Natural → Edit
-bits_of g v (IsNatural n e) = put 0 (integer_form (FromZero (bitwise_of g n v)))
-bits_of g v NoNatural = refuse Unsuited
+abbrev bits_of : Bitwise → ℕ → Option (ℕ × ℕ) → Edit
+bits_of g v (Some (n, e)) = put 0 (integer_form (FromZero (bitwise_of g n v)))
+bits_of g v None = refuse Unsuited
 
-module _ (by : Bitwise) (v : ℕ) (field : Bytes) {r : Natural} (h : r ≡ natural_by field (at_least 0 field)) where
-  bits_told : {x : Natural} → r ≡ x → bits_edit by v field ≡ bits_of by v x
+module _ (by : Bitwise) (v : ℕ) (field : Bytes) {r : (Option (ℕ × ℕ))} (h : r ≡ natural_by field (at_least 0 field)) where
+  bits_told : {x : (Option (ℕ × ℕ))} → r ≡ x → bits_edit by v field ≡ bits_of by v x
   unfolding edit_at altered suited became
   bits_told q = go by (at_least 0 field) refl ∙ ap (bits_of by v) (sym h ∙ q)
     where
@@ -75,8 +72,8 @@ module _ (by : Bitwise) (v : ℕ) (field : Bytes) {r : Natural} (h : r ≡ natur
       go Or fails e = rw e
       go Or (gets n s) e = rw e
 
-  pub bits_unsuited : r ≡ NoNatural → Computes (bits_edit by v field) (NoComputed Unsuited)
+  pub bits_unsuited : r ≡ None → Computes (bits_edit by v field) (Err Unsuited)
   bits_unsuited q = (bits_told q, tt)
 
-  pub bits_is : {n e : ℕ} → r ≡ IsNatural n e → {m : ℕ} → m ≡ bitwise_of by n v → m < 2 ^ 64 → Computes (bits_edit by v field) (IsComputed (FromZero m))
+  pub bits_is : {n e : ℕ} → r ≡ Some (n, e) → {m : ℕ} → m ≡ bitwise_of by n v → m < 2 ^ 64 → Computes (bits_edit by v field) (Ok (FromZero m))
   bits_is q i k = (bits_told q ∙ ap (λ (m : ℕ). put 0 (integer_form (FromZero m))) (sym i), k)

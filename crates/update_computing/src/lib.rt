@@ -13,19 +13,13 @@ ghost use Rattle.update_computing.specs.Computing.{bitwise_of, Computes, sum_edi
 use msgpack_scalars::Int;
 use tuples::Refusal;
 use update_operations::Bitwise;
-use update_parts::{Natural, Signed};
 use update_places::{IN_LIST, IN_WORK};
-use update_sums::Sum;
 
 // A number; or why there is none.
-#[derive(Clone, Copy)]
-pub enum Computed {
-    Is(Int),
-    Refused(Refusal),
-}
+pub type Computed = Result<Int, Refusal>;
 
 // The field that stands at `at`, read. The sources are told apart here, since their references have no lifetime in common.
-fn integer_in(tuple: &[u8], list: &[u8], work: &[u8], at: usize, size: usize) -> Signed
+fn integer_in(tuple: &[u8], list: &[u8], work: &[u8], at: usize, size: usize) -> Option<(Int, usize)>
     ensures { result ≡ signed_by (bytes_from tuple.now list.now work.now at size) (any_integer (bytes_from tuple.now list.now work.now at size)) }
 {
     if at < IN_LIST {
@@ -38,7 +32,7 @@ fn integer_in(tuple: &[u8], list: &[u8], work: &[u8], at: usize, size: usize) ->
 }
 
 // .. from 0 up.
-fn natural_in(tuple: &[u8], list: &[u8], work: &[u8], at: usize, size: usize) -> Natural
+fn natural_in(tuple: &[u8], list: &[u8], work: &[u8], at: usize, size: usize) -> Option<(u64, usize)>
     ensures { result ≡ natural_by (bytes_from tuple.now list.now work.now at size) (at_least 0 (bytes_from tuple.now list.now work.now at size)) }
 {
     if at < IN_LIST {
@@ -50,7 +44,7 @@ fn natural_in(tuple: &[u8], list: &[u8], work: &[u8], at: usize, size: usize) ->
     update_numbers::at_least(update_places::part_of(work, at - IN_WORK, size), 0, 0)
 }
 
-fn total(z: Int, v: Int, minus: bool) -> Sum
+fn total(z: Int, v: Int, minus: bool) -> Option<Int>
     ensures { result ≡ in_range (pick minus (asℤ z -ℤ asℤ v) (asℤ z +ℤ asℤ v)) }
 {
     if minus {
@@ -71,13 +65,13 @@ pub fn sum_of(
 ) -> Computed
     ensures { Computes (sum_edit minus v (bytes_from tuple.now list.now work.now at size)) result }
 {
-    let Signed::Is(z, _) = integer_in(tuple, list, work, at, size) else {
-        return Computed::Refused(Refusal::Unsuited);
+    let Some((z, _)) = integer_in(tuple, list, work, at, size) else {
+        return Err(Refusal::Unsuited);
     };
-    let Sum::Is(sum) = total(z, v, minus) else {
-        return Computed::Refused(Refusal::OutOfRange);
+    let Some(sum) = total(z, v, minus) else {
+        return Err(Refusal::OutOfRange);
     };
-    Computed::Is(sum)
+    Ok(sum)
 }
 
 fn combine(by: Bitwise, n: u64, v: u64) -> u64
@@ -102,8 +96,8 @@ pub fn bits_of(
 ) -> Computed
     ensures { Computes (bits_edit by v (bytes_from tuple.now list.now work.now at size)) result }
 {
-    let Natural::Is(n, _) = natural_in(tuple, list, work, at, size) else {
-        return Computed::Refused(Refusal::Unsuited);
+    let Some((n, _)) = natural_in(tuple, list, work, at, size) else {
+        return Err(Refusal::Unsuited);
     };
-    Computed::Is(Int::FromZero(combine(by, n, v)))
+    Ok(Int::FromZero(combine(by, n, v)))
 }

@@ -1,4 +1,5 @@
 -- What the calls answer, by what the list came to. Assumes nothing.
+use Rattle.std.specs.Prelude.{Ok, Err}
 use mathlib.Core.Path.{◌≡◌, refl, sym, ap, ◌∙◌, subst}
 use mathlib.Core.Bool.{Bool, true, false, ◌&&◌}
 use mathlib.Core.Logic.{◌⊎◌, inl, inr}
@@ -23,13 +24,11 @@ use Rattle.update_running.specs.declared.Stage.{Stage}
 use Rattle.update_running.specs.Held.{fields_now}
 use Rattle.update_running.specs.Carrying.{Came, stops, makes, comes_to, takes_back, rest_of, work_room, table_room, Stalled, Carried}
 use Rattle.update_running.proofs.Performing.{fields-length, within}
-use Rattle.update_delivering.specs.declared.Tried.{Tried}
-use Rattle.update_delivering.specs.declared.Tried.TheVariants.{NoRoom, Moved, Refused, Written}
-use Rattle.update_delivering.specs.declared.Pressed.{Pressed}
-use Rattle.update_delivering.specs.declared.Pressed.TheVariants.{NoRoom as NoPress, Refused as Declined, Written as Both}
-use Rattle.update_delivering.specs.Delivering.{update_by, undo_by, long_by, Lacks, TriesUpdate, TriesUndo, TriesPress}
+use Rattle.update_delivering.specs.Delivering.{Tried, Pressed, update_by, undo_by, long_by, Lacks, TriesUpdate, TriesUndo, TriesPress}
 use Rattle.update_delivering.specs.Gathering.{shown, Stands, undo_outcome, Undoes, Delivers, DeliversBoth, Moves}
 use Rattle.update_delivering.proofs.Holds.{same-fields, stands, undoes-held, outcome}
+use Rattle.update_delivering.specs.declared.Failed.TheVariants.{NoRoom, Refused}
+use Rattle.update_delivering.specs.declared.Unwritten.TheVariants.{Moved, NoRoom as NoRoomYet, Refused as RefusedYet}
 
 -- ---- the arrays had no room
 
@@ -96,8 +95,8 @@ module _ {T : Option Fields} {t l w : Bytes} {table back : List ℕ} {base n fir
   -- the fields up to there as a tuple
   pub tries_moved : (r : Tried) (work out spare spare' : Bytes) (old : List ℕ) → length w ≡ length work → Moves r (shown t l w table z) spare spare' at i
       → TriesUpdate r C l out out spare spare' work old base n first
-  tries_moved NoRoom work out spare spare' old e m = (refl, m.0, inr m.1)
-  tries_moved (Moved k a j) work out spare spare' old e m =
+  tries_moved (Err NoRoomYet) work out spare spare' old e m = (refl, m.0, inr m.1)
+  tries_moved (Err (Moved k a j)) work out spare spare' old e m =
       let F = fields_now t l w table z in
       let q : shown t l w table z ≡ F = same-fields S.held in
       let b : spare' ≡ plain F ++ drop (length (plain F)) spare = rw q at m.4 in
@@ -120,8 +119,8 @@ module _ {T : Option Fields} {t l w : Bytes} {table back : List ℕ} {base n fir
       on : (first < i) ⊎ (length w < max_tuple) → (first < i) ⊎ (length work < max_tuple)
       on (inl h) = inl h
       on (inr h) = inr (omega arith)
-  tries_moved (Refused k j) work out spare spare' old e m = absurd m
-  tries_moved (Written k) work out spare spare' old e m = absurd m
+  tries_moved (Err (RefusedYet k j)) work out spare spare' old e m = absurd m
+  tries_moved (Ok k) work out spare spare' old e m = absurd m
 
 module _ {T : Option Fields} {t l w : Bytes} {table back : List ℕ} {base n first start : ℕ} {z : Stage}
     (K : Carried T t l w table back base n first start z) where
@@ -145,21 +144,21 @@ module _ {T : Option Fields} {t l w : Bytes} {table back : List ℕ} {base n fir
 
   pub tries_update : (r : Tried) (work out out' spare : Bytes) (old : List ℕ) → Delivers r (bytes (plain (shown t l w table z))) out out'
       → TriesUpdate r D l out out' spare spare work old base n first
-  tries_update NoRoom work out out' spare old d = absurd d
-  tries_update (Moved k a j) work out out' spare old d = absurd d
-  tries_update (Refused k j) work out out' spare old d = (d.0 ∙ ap (λ (o : Outcome). delivered o out) made, refl, d.1)
-  tries_update (Written k) work out out' spare old d = (d ∙ ap (λ (o : Outcome). delivered o out) made, refl)
+  tries_update (Err NoRoomYet) work out out' spare old d = absurd d
+  tries_update (Err (Moved k a j)) work out out' spare old d = absurd d
+  tries_update (Err (RefusedYet k j)) work out out' spare old d = (d.0 ∙ ap (λ (o : Outcome). delivered o out) made, refl, d.1)
+  tries_update (Ok k) work out out' spare old d = (d ∙ ap (λ (o : Outcome). delivered o out) made, refl)
 
   pub tries_undo : (r : Tried) (work out out' : Bytes) (old : List ℕ) → length back ≡ max_operations → Delivers r (undo_outcome t l w back z) out out'
       → TriesUndo r D B out out' work old
-  tries_undo NoRoom work out out' old e d = absurd d
-  tries_undo (Moved k a j) work out out' old e d = absurd d
-  tries_undo (Refused k j) work out out' old e d = (d.0 ∙ ap (λ (o : Outcome). delivered o out) (undone e), d.1)
-  tries_undo (Written k) work out out' old e d = d ∙ ap (λ (o : Outcome). delivered o out) (undone e)
+  tries_undo (Err NoRoomYet) work out out' old e d = absurd d
+  tries_undo (Err (Moved k a j)) work out out' old e d = absurd d
+  tries_undo (Err (RefusedYet k j)) work out out' old e d = (d.0 ∙ ap (λ (o : Outcome). delivered o out) (undone e), d.1)
+  tries_undo (Ok k) work out out' old e d = d ∙ ap (λ (o : Outcome). delivered o out) (undone e)
 
   pub tries_press : (r : Pressed) (work out out' un un' : Bytes) (old : List ℕ) → length back ≡ max_operations
       → DeliversBoth r (pressing (bytes (plain (shown t l w table z))) (undo_outcome t l w back z)) out out' un un'
       → TriesPress r D B out out' un un' work old
-  tries_press NoPress work out out' un un' old e d = absurd d
-  tries_press (Declined k j) work out out' un un' old e d = (d.0 ∙ rw (made, undone e), d.1)
-  tries_press (Both n k) work out out' un un' old e d = d ∙ rw (made, undone e)
+  tries_press (Err NoRoom) work out out' un un' old e d = absurd d
+  tries_press (Err (Refused k j)) work out out' un un' old e d = (d.0 ∙ rw (made, undone e), d.1)
+  tries_press (Ok (n, k)) work out out' un un' old e d = d ∙ rw (made, undone e)

@@ -1,5 +1,5 @@
 -- Inner: what a list came to on a tuple, as the calls write it, with arrays of some room to work in.
-use Rattle.std.specs.Prelude.{ℕ, ◌<◌, ◌≤◌, ◌≡◌, ◌⊎◌, List, ◌++◌, length, drop}
+use Rattle.std.specs.Prelude.{ℕ, ◌<◌, ◌≤◌, ◌≡◌, ◌⊎◌, List, ◌++◌, length, drop, Ok, Err, Result}
 use Rattle.std.proofs.Math.Option.{some}
 use Rattle.msgpack_first_bytes.specs.Bytes.{Bytes}
 use Rattle.msgpack_values.specs.Spoiled.{no_place}
@@ -9,10 +9,18 @@ use Rattle.tuples.specs.Call.{Outcome, refusal, bytes, limited_list, Result, ref
 use Rattle.tuples.specs.Press.{pressing, PressResult, declining, pressed}
 use Rattle.tuples.specs.declared.Refusal.TheVariants.{LongUndo}
 use Rattle.update_running.specs.Carrying.{Came, stops, makes, comes_to, rest_of, table_room, work_room}
-use Rattle.update_delivering.specs.declared.Tried.{Tried}
-use Rattle.update_delivering.specs.declared.Tried.TheVariants.{NoRoom, Moved, Refused, Written}
-use Rattle.update_delivering.specs.declared.Pressed.{Pressed}
-use Rattle.update_delivering.specs.declared.Pressed.TheVariants.{NoRoom as NoPress, Refused as Declined, Written as Both}
+use Rattle.update_delivering.specs.declared.Failed.TheVariants.{NoRoom, Refused}
+use Rattle.update_delivering.specs.declared.Unwritten.TheVariants.{Moved, NoRoom as NoRoomYet, Refused as RefusedYet}
+use Rattle.update_delivering.specs.declared.Failed.{Failed}
+use Rattle.update_delivering.specs.declared.Unwritten.{Unwritten}
+
+-- the length written, or why nothing is
+abbrev pub Tried : Type 0
+Tried = Result ℕ Unwritten
+
+-- both lengths written, or why nothing is
+abbrev pub Pressed : Type 0
+Pressed = Result (ℕ × ℕ) Failed
 
 -- what is to be written: the new tuple, and the undo list
 abbrev pub update_by : Came → Outcome
@@ -52,19 +60,19 @@ pub record Rebased (c : Came) (l work spare spare' : Bytes) (base n first k at i
 
 -- c is what the list came to
 abbrev pub TriesUpdate : Tried → Came → Bytes → Bytes → Bytes → Bytes → Bytes → Bytes → List ℕ → ℕ → ℕ → ℕ → Type 0
-TriesUpdate NoRoom c l out out' spare spare' work table base n first = (out' ≡ out) × (spare' ≡ spare) × (Lacks table work ⊎ (length spare < max_tuple))
-TriesUpdate (Moved k at i) c l out out' spare spare' work table base n first = (out' ≡ out) × Rebased c l work spare spare' base n first k at i
-TriesUpdate (Refused k i) c l out out' spare spare' work table base n first = (refusing k i out' ≡ delivered (update_by c) out) × (spare' ≡ spare) × (i ≤ max_operations)
-TriesUpdate (Written k) c l out out' spare spare' work table base n first = (written k out' ≡ delivered (update_by c) out) × (spare' ≡ spare)
+TriesUpdate (Err NoRoomYet) c l out out' spare spare' work table base n first = (out' ≡ out) × (spare' ≡ spare) × (Lacks table work ⊎ (length spare < max_tuple))
+TriesUpdate (Err (Moved k at i)) c l out out' spare spare' work table base n first = (out' ≡ out) × Rebased c l work spare spare' base n first k at i
+TriesUpdate (Err (RefusedYet k i)) c l out out' spare spare' work table base n first = (refusing k i out' ≡ delivered (update_by c) out) × (spare' ≡ spare) × (i ≤ max_operations)
+TriesUpdate (Ok k) c l out out' spare spare' work table base n first = (written k out' ≡ delivered (update_by c) out) × (spare' ≡ spare)
 
 -- us is what takes it back
 abbrev pub TriesUndo : Tried → Came → List Bytes → Bytes → Bytes → Bytes → List ℕ → Type 0
-TriesUndo NoRoom c us out out' work table = (out' ≡ out) × (Lacks table work ⊎ (length work < work_room) ⊎ (undo_by c us ≡ long_by c))
-TriesUndo (Moved k at i) c us out out' work table = ⊥
-TriesUndo (Refused k i) c us out out' work table = (refusing k i out' ≡ delivered (undo_by c us) out) × (i ≤ max_operations)
-TriesUndo (Written k) c us out out' work table = written k out' ≡ delivered (undo_by c us) out
+TriesUndo (Err NoRoomYet) c us out out' work table = (out' ≡ out) × (Lacks table work ⊎ (length work < work_room) ⊎ (undo_by c us ≡ long_by c))
+TriesUndo (Err (Moved k at i)) c us out out' work table = ⊥
+TriesUndo (Err (RefusedYet k i)) c us out out' work table = (refusing k i out' ≡ delivered (undo_by c us) out) × (i ≤ max_operations)
+TriesUndo (Ok k) c us out out' work table = written k out' ≡ delivered (undo_by c us) out
 
 abbrev pub TriesPress : Pressed → Came → List Bytes → Bytes → Bytes → Bytes → Bytes → Bytes → List ℕ → Type 0
-TriesPress NoPress c us out out' un un' work table = (out' ≡ out) × (un' ≡ un) × (Lacks table work ⊎ (length work < work_room) ⊎ (undo_by c us ≡ long_by c))
-TriesPress (Declined k i) c us out out' un un' work table = (declining k i out' un' ≡ pressed (pressing (update_by c) (undo_by c us)) out un) × (i ≤ max_operations)
-TriesPress (Both n k) c us out out' un un' work table = both_written n k out' un' ≡ pressed (pressing (update_by c) (undo_by c us)) out un
+TriesPress (Err NoRoom) c us out out' un un' work table = (out' ≡ out) × (un' ≡ un) × (Lacks table work ⊎ (length work < work_room) ⊎ (undo_by c us ≡ long_by c))
+TriesPress (Err (Refused k i)) c us out out' un un' work table = (declining k i out' un' ≡ pressed (pressing (update_by c) (undo_by c us)) out un) × (i ≤ max_operations)
+TriesPress (Ok (n, k)) c us out out' un un' work table = both_written n k out' un' ≡ pressed (pressing (update_by c) (undo_by c us)) out un

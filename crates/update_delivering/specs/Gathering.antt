@@ -1,5 +1,5 @@
 -- Inner: what is written of what a run holds, and what writing asks.
-use Rattle.std.specs.Prelude.{ℕ, suc, ◌+◌, ◌-◌, ◌^◌, ◌<◌, ◌≤◌, ◌≡◌, Bool, ◌&&◌, List, [], ◌∷◌, ◌++◌, map, leb, eqb, length, take, drop, get_or}
+use Rattle.std.specs.Prelude.{ℕ, suc, ◌+◌, ◌-◌, ◌^◌, ◌<◌, ◌≤◌, ◌≡◌, Bool, ◌&&◌, List, [], ◌∷◌, ◌++◌, map, leb, eqb, length, take, drop, get_or, Ok, Err}
 use Rattle.msgpack_first_bytes.specs.Bytes.{Bytes, pick}
 use Rattle.msgpack_values.specs.Pieces.{joined}
 use Rattle.msgpack_writing.specs.Forms.{array_header}
@@ -12,11 +12,9 @@ use Rattle.update_places.specs.Place.{start_of, length_of, fields_in, Sources, C
 use Rattle.update_running.specs.declared.Stage.{Stage}
 use Rattle.update_running.specs.Steps.{entry_mark}
 use Rattle.update_running.specs.Held.{places_now, undo_in}
-use Rattle.update_delivering.specs.declared.Tried.{Tried}
-use Rattle.update_delivering.specs.declared.Tried.TheVariants.{NoRoom, Moved, Refused, Written}
-use Rattle.update_delivering.specs.declared.Pressed.{Pressed}
-use Rattle.update_delivering.specs.declared.Pressed.TheVariants.{NoRoom as NoPress, Refused as Declined, Written as Both}
-use Rattle.update_delivering.specs.Delivering.{written, both_written}
+use Rattle.update_delivering.specs.Delivering.{Tried, Pressed, written, both_written}
+use Rattle.update_delivering.specs.declared.Failed.TheVariants.{NoRoom, Refused}
+use Rattle.update_delivering.specs.declared.Unwritten.TheVariants.{Moved, NoRoom as NoRoomYet, Refused as RefusedYet}
 
 -- how many of the entries lie one behind the other from a start on, and where they end
 unfoldable pub besides : ℕ → List ℕ → ℕ
@@ -82,20 +80,20 @@ pub record Undoes (t l w : Bytes) (back : List ℕ) (z : Stage) : Type 0 where
 
 -- what is answered, by what is to be written
 abbrev pub Delivers : Tried → Outcome → Bytes → Bytes → Type 0
-Delivers NoRoom o out out' = ⊥
-Delivers (Moved k at i) o out out' = ⊥
-Delivers (Refused k i) o out out' = (refusing k i out' ≡ delivered o out) × (i ≤ max_operations)
-Delivers (Written k) o out out' = written k out' ≡ delivered o out
+Delivers (Err NoRoomYet) o out out' = ⊥
+Delivers (Err (Moved k at i)) o out out' = ⊥
+Delivers (Err (RefusedYet k i)) o out out' = (refusing k i out' ≡ delivered o out) × (i ≤ max_operations)
+Delivers (Ok k) o out out' = written k out' ≡ delivered o out
 
 abbrev pub DeliversBoth : Pressed → Pressing → Bytes → Bytes → Bytes → Bytes → Type 0
-DeliversBoth NoPress o out out' un un' = ⊥
-DeliversBoth (Declined k i) o out out' un un' = (declining k i out' un' ≡ pressed o out un) × (i ≤ max_operations)
-DeliversBoth (Both n k) o out out' un un' = both_written n k out' un' ≡ pressed o out un
+DeliversBoth (Err NoRoom) o out out' un un' = ⊥
+DeliversBoth (Err (Refused k i)) o out out' un un' = (declining k i out' un' ≡ pressed o out un) × (i ≤ max_operations)
+DeliversBoth (Ok (n, k)) o out out' un un' = both_written n k out' un' ≡ pressed o out un
 
 -- the fields as a tuple in the spare buffer
 abbrev pub Moves : Tried → Fields → Bytes → Bytes → ℕ → ℕ → Type 0
-Moves NoRoom fs spare spare' at i = (spare' ≡ spare) × (length spare < max_tuple)
-Moves (Moved k a j) fs spare spare' at i =
+Moves (Err NoRoomYet) fs spare spare' at i = (spare' ≡ spare) × (length spare < max_tuple)
+Moves (Err (Moved k a j)) fs spare spare' at i =
     (a ≡ at) × (j ≡ i) × (k ≡ length (plain fs)) × (length (plain fs) ≤ length spare) × (spare' ≡ plain fs ++ drop (length (plain fs)) spare)
-Moves (Refused k j) fs spare spare' at i = ⊥
-Moves (Written k) fs spare spare' at i = ⊥
+Moves (Err (RefusedYet k j)) fs spare spare' at i = ⊥
+Moves (Ok k) fs spare spare' at i = ⊥

@@ -20,25 +20,30 @@ ghost use Rattle.update_delivering.specs.Delivering.{TriesUpdate, TriesUndo, Tri
 
 use tuples::{MAX_LIST, MAX_OPERATIONS, MAX_TUPLE, Refusal};
 use update_places::{length_of, start_of};
-use update_running::{Ran, Stage};
+use update_running::{Stage, Unfinished};
 
 // What a call came to: the arrays have no room; the work array was full, and the fields up to there stand as a
 // tuple in the spare buffer: its length, the place and the index of the next operation; a refusal; the length.
+// Why nothing is written for good: the arrays have no room; the work array was full, and the fields up to there stand as a
+// tuple in the spare buffer: its length, the place and the index of the next operation; a refusal.
 #[derive(Clone, Copy)]
-pub enum Tried {
+pub enum Unwritten {
     NoRoom,
     Moved(usize, usize, usize),
     Refused(Refusal, usize),
-    Written(usize),
 }
 
+pub type Tried = Result<usize, Unwritten>;
+
 // The same of a press, with both lengths.
+// Why nothing is written: the arrays have no room; a refusal.
 #[derive(Clone, Copy)]
-pub enum Pressed {
+pub enum Failed {
     NoRoom,
     Refused(Refusal, usize),
-    Written(usize, usize),
 }
+
+pub type Pressed = Result<(usize, usize), Failed>;
 
 // ---- the new tuple
 
@@ -186,10 +191,10 @@ fn deliver(
 {
     let length = tuple_length(stage);
     if out.len() < length {
-        return Tried::Refused(Refusal::ShortBuffer, 0);
+        return Err(Unwritten::Refused(Refusal::ShortBuffer, 0));
     }
     write_tuple(tuple, list, work, table, stage, out);
-    Tried::Written(length)
+    Ok(length)
 }
 
 // The fields up to an operation, as a tuple for the operations from there on.
@@ -207,10 +212,10 @@ fn rebase(
     ensures { Moves result (shown tuple.now list.now work.now table.now stage) spare.old spare.new at i }
 {
     if spare.len() < MAX_TUPLE {
-        return Tried::NoRoom;
+        return Err(Unwritten::NoRoom);
     }
     write_tuple(tuple, list, work, table, stage, spare);
-    Tried::Moved(tuple_length(stage), at, i)
+    Err(Unwritten::Moved(tuple_length(stage), at, i))
 }
 
 // ---- the undo list
@@ -300,13 +305,13 @@ fn deliver_undo(
 {
     let length = undo_length(stage);
     if length == 0 {
-        return Tried::Refused(Refusal::LongUndo, 0);
+        return Err(Unwritten::Refused(Refusal::LongUndo, 0));
     }
     if out.len() < length {
-        return Tried::Refused(Refusal::ShortBuffer, 0);
+        return Err(Unwritten::Refused(Refusal::ShortBuffer, 0));
     }
     write_undo(tuple, list, work, back, stage.laid, out);
-    Tried::Written(length)
+    Ok(length)
 }
 
 // Everything is judged before anything is written.
@@ -327,17 +332,17 @@ fn deliver_both(
     let length = tuple_length(stage);
     let undo_length = undo_length(stage);
     if undo_length == 0 {
-        return Pressed::Refused(Refusal::LongUndo, 0);
+        return Err(Failed::Refused(Refusal::LongUndo, 0));
     }
     if out.len() < length {
-        return Pressed::Refused(Refusal::ShortBuffer, 0);
+        return Err(Failed::Refused(Refusal::ShortBuffer, 0));
     }
     if undo.len() < undo_length {
-        return Pressed::Refused(Refusal::ShortBuffer, 0);
+        return Err(Failed::Refused(Refusal::ShortBuffer, 0));
     }
     write_tuple(tuple, list, work, table, stage, out);
     write_undo(tuple, list, work, back, stage.laid, undo);
-    Pressed::Written(length, undo_length)
+    Ok((length, undo_length))
 }
 
 // The operations of a list from the one at `start` on, which is the `first` of `count`, on the tuple; the new
@@ -369,10 +374,10 @@ pub fn update_with(
         table,
         &mut none[..0],
     ) {
-        Ran::NoRoom => Tried::NoRoom,
-        Ran::Refused(refusal, i) => Tried::Refused(refusal, i),
-        Ran::Full(stage, at, i) => rebase(tuple, list, work, table, stage, at, i, spare),
-        Ran::Done(stage) => deliver(tuple, list, work, table, stage, out),
+        Err(Unfinished::NoRoom) => Err(Unwritten::NoRoom),
+        Err(Unfinished::Refused(refusal, i)) => Err(Unwritten::Refused(refusal, i)),
+        Err(Unfinished::Full(stage, at, i)) => rebase(tuple, list, work, table, stage, at, i, spare),
+        Ok(stage) => deliver(tuple, list, work, table, stage, out),
     }
 }
 
@@ -392,10 +397,10 @@ pub fn undo_with(
 {
     let mut back = [0u64; MAX_OPERATIONS];
     match update_running::carry_out(tuple, list, base, start, 0, count, work, table, &mut back) {
-        Ran::NoRoom => Tried::NoRoom,
-        Ran::Full(_, _, _) => Tried::NoRoom,
-        Ran::Refused(refusal, i) => Tried::Refused(refusal, i),
-        Ran::Done(stage) => deliver_undo(tuple, list, work, &back, stage, out),
+        Err(Unfinished::NoRoom) => Err(Unwritten::NoRoom),
+        Err(Unfinished::Full(_, _, _)) => Err(Unwritten::NoRoom),
+        Err(Unfinished::Refused(refusal, i)) => Err(Unwritten::Refused(refusal, i)),
+        Ok(stage) => deliver_undo(tuple, list, work, &back, stage, out),
     }
 }
 
@@ -417,9 +422,9 @@ pub fn press_with(
 {
     let mut back = [0u64; MAX_OPERATIONS];
     match update_running::carry_out(tuple, list, base, start, 0, count, work, table, &mut back) {
-        Ran::NoRoom => Pressed::NoRoom,
-        Ran::Full(_, _, _) => Pressed::NoRoom,
-        Ran::Refused(refusal, i) => Pressed::Refused(refusal, i),
-        Ran::Done(stage) => deliver_both(tuple, list, work, table, &back, stage, out, undo),
+        Err(Unfinished::NoRoom) => Err(Failed::NoRoom),
+        Err(Unfinished::Full(_, _, _)) => Err(Failed::NoRoom),
+        Err(Unfinished::Refused(refusal, i)) => Err(Failed::Refused(refusal, i)),
+        Ok(stage) => deliver_both(tuple, list, work, table, &back, stage, out, undo),
     }
 }

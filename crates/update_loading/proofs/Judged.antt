@@ -1,4 +1,5 @@
 -- A tuple judged by the tests on the way; what that says of its fields. Assumes nothing.
+use Rattle.std.specs.Prelude.{Some, None, Ok, Err, Option}
 use mathlib.Core.Path.{◌≡◌, refl, sym, ap, ◌∙◌, subst}
 use mathlib.Core.Bool.{Bool, true, false}
 use mathlib.Core.List.{List, []}
@@ -11,23 +12,20 @@ use lib.ListN.{length, take, drop, length-drop, length-append}
 use lib.Seq.{take_all, take-append_seam}
 use Rattle.msgpack_first_bytes.specs.Bytes.{Bytes, pick}
 use Rattle.msgpack_first_bytes.proofs.Logic.{impossible}
-use Rattle.msgpack_values.specs.Value.{shift, value, items}
+use Rattle.msgpack_values.specs.Value.{shift, value, items, Read}
 use Rattle.msgpack_values.specs.Pieces.{pieces, joined}
-use Rattle.msgpack_values.specs.declared.Read.{Read, TheVariants.Whole, TheVariants.Broken}
 use Rattle.msgpack_values.proofs.Pieces.{pieces-joined}
 use Rattle.msgpack_scalars.specs.Start.{array_by}
-use Rattle.msgpack_scalars.specs.Header.{header}
-use Rattle.msgpack_scalars.specs.declared.Header.{Header, TheVariants.Is, TheVariants.Other}
+use Rattle.msgpack_scalars.specs.Header.{header, Header}
 use Rattle.tuples.specs.Limits.{max_fields, max_tuple, field_depth}
 use Rattle.tuples.specs.Tuple.{Fields, filling, fields_filling, fields_by, fields_of}
 use Rattle.tuples.specs.Decoding.{count_from, count}
 use Rattle.tuples.proofs.Tuple.{array-short}
 use Rattle.update_parts.specs.Part.{natural_by}
-use Rattle.update_parts.specs.declared.Natural.{Natural, TheVariants.Is as IsNatural, TheVariants.Bad as NoNatural}
 use Rattle.update_places.specs.Place.{places_at}
-use Rattle.update_loading.specs.Loading.{count_by, loaded_by, loaded, entries_by, entries, tabled}
-use Rattle.update_loading.specs.declared.Loaded.{Loaded, TheVariants.Bad, TheVariants.NoRoom, TheVariants.Fields as Count}
+use Rattle.update_loading.specs.Loading.{count_by, loaded_by, loaded, entries_by, entries, tabled, Loaded}
 use Rattle.update_loading.proofs.Measures.{whole-at}
+use Rattle.update_loading.specs.declared.Unloaded.TheVariants.{Bad, NoRoom}
 
 -- ---- n values from a place on, by what the reader says of them
 
@@ -35,22 +33,22 @@ abbrev values : ℕ → Bytes → Read
 values = items (value field_depth)
 
 module _ (n at : ℕ) (t : Bytes) where
-  broken : {p : ℕ} → Broken p ≡ shift at (values n (drop at t)) → Bad ≡ count_by at (fields_filling n (drop at t))
+  broken : {p : ℕ} → Err p ≡ shift at (values n (drop at t)) → Err Bad ≡ count_by at (fields_filling n (drop at t))
   unfolding fields_filling filling
   broken {p} q = go (values n (drop at t)) q
     where
-      go : (r : Read) → Broken p ≡ shift at r → Bad ≡ count_by at (filling r (length (drop at t)) (pieces (value field_depth) n (drop at t)))
-      go (Whole k) q = impossible cc
-      go (Broken k) q = refl
+      go : (r : Read) → Err p ≡ shift at r → Err Bad ≡ count_by at (filling r (length (drop at t)) (pieces (value field_depth) n (drop at t)))
+      go (Ok k) q = impossible cc
+      go (Err k) q = refl
 
-  module _ {end : ℕ} (h : at ≤ length t) (q : Whole end ≡ shift at (values n (drop at t))) where
-    short : (end ≡ length t → ⊥) → Bad ≡ count_by at (fields_filling n (drop at t))
+  module _ {end : ℕ} (h : at ≤ length t) (q : Ok end ≡ shift at (values n (drop at t))) where
+    short : (end ≡ length t → ⊥) → Err Bad ≡ count_by at (fields_filling n (drop at t))
     unfolding fields_filling filling
     short f =
         let (x, w) = whole-at at end (values n (drop at t)) q in
         rw (w, ne_eqb (end - at) (length (drop at t)) (λ e. f (let r = length-drop at t in omega arith)))
 
-    filled : end ≡ length t → Count n at ≡ count_by at (fields_filling n (drop at t))
+    filled : end ≡ length t → Ok (n, at) ≡ count_by at (fields_filling n (drop at t))
     unfolding fields_filling filling
     filled f =
         let (x, w) = whole-at at end (values n (drop at t)) q in
@@ -64,45 +62,45 @@ abbrev Answers : Bytes → Loaded → List ℕ → List ℕ → Type 0
 Answers t r l' l = (r ≡ loaded (length l) t) × (l' ≡ tabled (entries (length l) t) l)
 
 module _ (t : Bytes) (l : List ℕ) where
-  pub long-tuple : max_tuple < length t → Answers t Bad l l
+  pub long-tuple : max_tuple < length t → Answers t (Err Bad) l l
   unfolding loaded entries tabled
   long-tuple h = rw (lt-leb (length t) max_tuple h) (refl, refl)
 
-  module _ (h : length t ≤ max_tuple) {x : Natural} (q : x ≡ natural_by t (count t)) where
-    pub no_array : x ≡ NoNatural → Answers t Bad l l
+  module _ (h : length t ≤ max_tuple) {x : (Option (ℕ × ℕ))} (q : x ≡ natural_by t (count t)) where
+    pub no_array : x ≡ None → Answers t (Err Bad) l l
     unfolding loaded loaded_by entries entries_by tabled count count_from
     no_array e = rw (le-leb (length t) max_tuple h) (go (header array_by t) (sym e ∙ q))
       where
-        go : (r : Header) → NoNatural ≡ natural_by t (count_from r t) → (Bad ≡ loaded_by (length l) r t) × (l ≡ tabled (entries_by (length l) r t) l)
-        go (Is n e) q = impossible cc
-        go Other q = (refl, refl)
+        go : (r : Header) → None ≡ natural_by t (count_from r t) → ((Err Bad) ≡ loaded_by (length l) r t) × (l ≡ tabled (entries_by (length l) r t) l)
+        go (Some (n, e)) q = impossible cc
+        go None q = (refl, refl)
 
-    module _ {n at : ℕ} (i : x ≡ IsNatural n at) where
-      pub many_fields : max_fields < n → Answers t Bad l l
+    module _ {n at : ℕ} (i : x ≡ Some (n, at)) where
+      pub many_fields : max_fields < n → Answers t (Err Bad) l l
       unfolding loaded loaded_by entries entries_by tabled count count_from
       many_fields k = rw (le-leb (length t) max_tuple h) (go (header array_by t) (sym i ∙ q))
         where
-          go : (r : Header) → IsNatural n at ≡ natural_by t (count_from r t) → (Bad ≡ loaded_by (length l) r t) × (l ≡ tabled (entries_by (length l) r t) l)
-          go (Is m e) q = let j : m ≡ n = cc in rw (j, lt-leb n max_fields k) (refl, refl)
-          go Other q = impossible cc
+          go : (r : Header) → Some (n, at) ≡ natural_by t (count_from r t) → ((Err Bad) ≡ loaded_by (length l) r t) × (l ≡ tabled (entries_by (length l) r t) l)
+          go (Some (m, e)) q = let j : m ≡ n = cc in rw (j, lt-leb n max_fields k) (refl, refl)
+          go None q = impossible cc
 
       module _ (k : n ≤ max_fields) where
         -- the header ends where its reader says
-        array-is : (header array_by t ≡ Is n at) × (at ≤ length t)
+        array-is : (header array_by t ≡ Some (n, at)) × (at ≤ length t)
         unfolding count count_from
         array-is = go (header array_by t) refl (sym i ∙ q)
           where
-            go : (r : Header) → header array_by t ≡ r → IsNatural n at ≡ natural_by t (count_from r t) → (header array_by t ≡ Is n at) × (at ≤ length t)
-            go (Is m e) p q =
+            go : (r : Header) → header array_by t ≡ r → Some (n, at) ≡ natural_by t (count_from r t) → (header array_by t ≡ Some (n, at)) × (at ≤ length t)
+            go (Some (m, e)) p q =
                 let j : m ≡ n = cc in
                 let o : at ≡ length t - length (drop e t) = cc in
                 let f = (array-short t m e (omega arith) p).1 in
                 let d = length-drop e t in
                 let u : e ≡ at = omega arith in
                 (p ∙ rw (j, u), omega arith)
-            go Other p q = impossible cc
+            go None p q = impossible cc
 
-        pub no_room : length l < n → Answers t NoRoom l l
+        pub no_room : length l < n → Answers t (Err NoRoom) l l
         unfolding loaded loaded_by entries entries_by tabled
         no_room o = rw (le-leb (length t) max_tuple h, array-is.0, le-leb n max_fields k, lt-leb n (length l) o) (refl, refl)
 
@@ -111,13 +109,13 @@ module _ (t : Bytes) (l : List ℕ) where
           unfolding loaded loaded_by entries entries_by
           as_values e = rw (le-leb (length t) max_tuple h, array-is.0, le-leb n max_fields k, le-leb n (length l) o) (e, m)
 
-          pub loaded-broken : {p : ℕ} → Broken p ≡ shift at (values n (drop at t)) → Answers t Bad l' l
+          pub loaded-broken : {p : ℕ} → Err p ≡ shift at (values n (drop at t)) → Answers t (Err Bad) l' l
           loaded-broken e = as_values (broken n at t e)
 
-          pub loaded-short : {end : ℕ} → Whole end ≡ shift at (values n (drop at t)) → (end ≡ length t → ⊥) → Answers t Bad l' l
+          pub loaded-short : {end : ℕ} → Ok end ≡ shift at (values n (drop at t)) → (end ≡ length t → ⊥) → Answers t (Err Bad) l' l
           loaded-short e f = as_values (short n at t array-is.1 e f)
 
-          pub loaded-all : {end : ℕ} → Whole end ≡ shift at (values n (drop at t)) → end ≡ length t → Answers t (Count n at) l' l
+          pub loaded-all : {end : ℕ} → Ok end ≡ shift at (values n (drop at t)) → end ≡ length t → Answers t (Ok (n, at)) l' l
           loaded-all e f = as_values (filled n at t array-is.1 e f)
 
 -- ---- for callers
@@ -135,19 +133,19 @@ pub record LoadedIs (room : ℕ) (t : Bytes) (o : Option Fields) (n e : ℕ) (es
   pub fits : length t ≤ max_tuple
 
 abbrev Says : ℕ → Bytes → Option Fields → Loaded → List ℕ → Type 0
-Says room t o Bad es = o ≡ none
-Says room t o NoRoom es = room < max_fields
-Says room t o (Count n e) es = LoadedIs room t o n e es
+Says room t o (Err Bad) es = o ≡ none
+Says room t o (Err NoRoom) es = room < max_fields
+Says room t o (Ok (n, e)) es = LoadedIs room t o n e es
 
 says : (room : ℕ) (t : Bytes) → Says room t (fields_of t) (loaded room t) (entries room t)
 unfolding loaded loaded_by entries entries_by fields_of fields_by fields_filling filling
 says room t = by_length (leb (length t) max_tuple) refl (header array_by t) refl
   where
-    by_values : length t ≤ max_tuple → (n e : ℕ) → header array_by t ≡ Is n e → n ≤ max_fields → n ≤ room → (r : Read) → values n (drop e t) ≡ r
+    by_values : length t ≤ max_tuple → (n e : ℕ) → header array_by t ≡ Some (n, e) → n ≤ max_fields → n ≤ room → (r : Read) → values n (drop e t) ≡ r
         → Says room t (filling r (length (drop e t)) (pieces (value field_depth) n (drop e t)))
         (count_by e (filling r (length (drop e t)) (pieces (value field_depth) n (drop e t)))) (places_at e (pieces (value field_depth) n (drop e t)))
-    by_values h n e q k o (Broken p) v = refl
-    by_values h n e q k o (Whole j) v = by_fill (eqb j (length (drop e t))) refl
+    by_values h n e q k o (Err p) v = refl
+    by_values h n e q k o (Ok j) v = by_fill (eqb j (length (drop e t))) refl
       where
         by_fill : (b : Bool) → eqb j (length (drop e t)) ≡ b → (let fs = pieces (value field_depth) n (drop e t) in Says room t (pick b (some fs) none) (count_by e (pick b (some fs) none)) (places_at e fs))
         by_fill false w = refl
@@ -168,30 +166,30 @@ says room t = by_length (leb (length t) max_tuple) refl (header array_by t) refl
               fits = h;
             }
 
-    by_room : length t ≤ max_tuple → (n e : ℕ) → header array_by t ≡ Is n e → (b c : Bool) → leb n max_fields ≡ b → leb n room ≡ c
-        → Says room t (pick b (fields_filling n (drop e t)) none) (pick b (pick c (count_by e (fields_filling n (drop e t))) NoRoom) Bad)
+    by_room : length t ≤ max_tuple → (n e : ℕ) → header array_by t ≡ Some (n, e) → (b c : Bool) → leb n max_fields ≡ b → leb n room ≡ c
+        → Says room t (pick b (fields_filling n (drop e t)) none) (pick b (pick c (count_by e (fields_filling n (drop e t))) (Err NoRoom)) (Err Bad))
         (pick b (pick c (places_at e (pieces (value field_depth) n (drop e t))) []) [])
     by_room h n e q false c x y = refl
     by_room h n e q true false x y = omega (arith, leb-true n max_fields x, leb-false n room y)
     by_room h n e q true true x y = by_values h n e q (leb-true _ _ x) (leb-true _ _ y) (values n (drop e t)) refl
 
     by_length : (b : Bool) → leb (length t) max_tuple ≡ b → (g : Header) → header array_by t ≡ g
-        → Says room t (pick b (fields_by g t) none) (pick b (loaded_by room g t) Bad) (pick b (entries_by room g t) [])
+        → Says room t (pick b (fields_by g t) none) (pick b (loaded_by room g t) (Err Bad)) (pick b (entries_by room g t) [])
     by_length false x g q = refl
-    by_length true x Other q = refl
-    by_length true x (Is n e) q = by_room (leb-true _ _ x) n e q (leb n max_fields) (leb n room) refl refl
+    by_length true x None q = refl
+    by_length true x (Some (n, e)) q = by_room (leb-true _ _ x) n e q (leb n max_fields) (leb n room) refl refl
 
 module _ (room : ℕ) (t : Bytes) where
   told : {r : Loaded} → loaded room t ≡ r → Says room t (fields_of t) r (entries room t)
   told q = subst (λ (x : Loaded). Says room t (fields_of t) x (entries room t)) q (says room t)
 
-  pub loaded_bad : loaded room t ≡ Bad → fields_of t ≡ none
+  pub loaded_bad : loaded room t ≡ Err Bad → fields_of t ≡ none
   loaded_bad q = told q
 
-  pub loaded-is : {n e : ℕ} → loaded room t ≡ Count n e → LoadedIs room t (fields_of t) n e (entries room t)
+  pub loaded-is : {n e : ℕ} → loaded room t ≡ Ok (n, e) → LoadedIs room t (fields_of t) n e (entries room t)
   loaded-is q = told q
 
-  pub loaded_noroom : loaded room t ≡ NoRoom → room < max_fields
+  pub loaded_noroom : loaded room t ≡ Err NoRoom → room < max_fields
   loaded_noroom q = told q
 
 -- the table keeps its length, and begins with the places

@@ -1,4 +1,5 @@
 -- Values one after the other, their places into a table. Assumes nothing.
+use Rattle.std.specs.Prelude.{Ok, Err}
 use mathlib.Core.Path.{◌≡◌, refl, sym, ap, ◌∙◌}
 use mathlib.Core.List.{List, [], ◌∷◌, ◌++◌, append_assoc, append-nil}
 use Prim.Native.Nat.{ℕ, suc, ◌+◌, ◌-◌, ◌<◌, ◌≤◌}
@@ -8,9 +9,8 @@ use native.Mathlib.Nat.{add-zero, sub-zero}
 use lib.ListN.{length, take, drop, set, length-set, take-append-drop}
 use lib.Seq.{take-suc-set, drop-set-lt, drop-drop, length-take-le}
 use Rattle.msgpack_first_bytes.specs.Bytes.{Bytes}
-use Rattle.msgpack_values.specs.Value.{shift, items}
+use Rattle.msgpack_values.specs.Value.{shift, items, Read}
 use Rattle.msgpack_values.specs.Pieces.{pieces}
-use Rattle.msgpack_values.specs.declared.Read.{Read, TheVariants.Whole, TheVariants.Broken}
 use Rattle.msgpack_values.proofs.Laws.{items-whole, items-broken}
 use Rattle.msgpack_values.proofs.Local.{Good}
 use Rattle.update_places.specs.Place.{place_of, places_at}
@@ -26,12 +26,12 @@ pub begin : (v : Bytes → Read) (t : Bytes) (from n : ℕ) (l : List ℕ) → S
 begin v t from n l = record { read = rw sub-zero; cuts = rw sub-zero; rest = refl }
 
 -- what a value at a place says of its length
-pub whole-at : (at e : ℕ) (r : Read) → Whole e ≡ shift at r → (e ≡ at + (e - at)) × (r ≡ Whole (e - at))
-whole-at at e (Whole k) h =
+pub whole-at : (at e : ℕ) (r : Read) → Ok e ≡ shift at r → (e ≡ at + (e - at)) × (r ≡ Ok (e - at))
+whole-at at e (Ok k) h =
     let q : e ≡ at + k = cc in
     let m : k ≡ e - at = omega arith in
-    (omega arith, ap Whole m)
-whole-at at e (Broken p) h = absurd (let z : ◌≡◌ {A = ℕ} 0 1 = cc in omega arith)
+    (omega arith, ap Ok m)
+whole-at at e (Err p) h = absurd (let z : ◌≡◌ {A = ℕ} 0 1 = cc in omega arith)
 
 -- nothing more is measured: the table is what was measured, laid over
 ended : {v : Bytes → Read} {t : Bytes} {from n : ℕ} {l₀ l : List ℕ} {at i : ℕ} → Sofar v t from n l₀ l at i → i ≤ length l
@@ -45,10 +45,10 @@ module _ {v : Bytes → Read} (good : Good v) {t : Bytes} {from n : ℕ} {l₀ l
   one_less : n - i ≡ suc (n - (i + 1))
   one_less = omega arith
 
-  pub place_after : {e : ℕ} → Whole e ≡ shift at (v (drop at t)) → at ≤ e
+  pub place_after : {e : ℕ} → Ok e ≡ shift at (v (drop at t)) → at ≤ e
   place_after q = let w = whole-at at _ (v (drop at t)) q in omega arith
 
-  next-whole : {e p : ℕ} → i < length l → Whole e ≡ shift at (v (drop at t)) → p ≡ place_of at (e - at) → Sofar v t from n l₀ (set l i p) e (i + 1)
+  next-whole : {e p : ℕ} → i < length l → Ok e ≡ shift at (v (drop at t)) → p ≡ place_of at (e - at) → Sofar v t from n l₀ (set l i p) e (i + 1)
   unfolding pieces places_at
   next-whole {e} {p} g q o =
       let w = whole-at at e (v (drop at t)) q in
@@ -64,21 +64,21 @@ module _ {v : Bytes → Read} (good : Good v) {t : Bytes} {from n : ℕ} {l₀ l
       }
 
   -- what the next turn finds
-  pub next_turn : {e p a : ℕ} {l' : List ℕ} → n ≤ length l → length l ≡ length l₀ → Whole e ≡ shift at (v (drop at t)) → p ≡ place_of at (e - at) → l' ≡ set l i p → a ≡ e
+  pub next_turn : {e p a : ℕ} {l' : List ℕ} → n ≤ length l → length l ≡ length l₀ → Ok e ≡ shift at (v (drop at t)) → p ≡ place_of at (e - at) → l' ≡ set l i p → a ≡ e
       → (i + 1 ≤ n) × (length l' ≡ length l₀) × Sofar v t from n l₀ l' a (i + 1)
   next_turn g k q o x y = rw (x, y) (omega arith, simp length-set k, next-whole (omega arith) q o)
 
-  pub next-broken : {p : ℕ} → i ≤ length l → Broken p ≡ shift at (v (drop at t))
-      → (Broken p ≡ shift from (items v n (drop from t))) × (l ≡ tabled (places_at from (pieces v n (drop from t))) l₀)
+  pub next-broken : {p : ℕ} → i ≤ length l → Err p ≡ shift at (v (drop at t))
+      → (Err p ≡ shift from (items v n (drop from t))) × (l ≡ tabled (places_at from (pieces v n (drop from t))) l₀)
   unfolding pieces places_at
   next-broken {p} g q = (items-broken v t at (n - (i + 1)) p q ∙ rw (← one_less) f.read, ended f g (rw one_less (none (v (drop at t)) refl q)))
     where
-      none : (r : Read) → v (drop at t) ≡ r → Broken p ≡ shift at r → places_at at (pieces v (suc (n - (i + 1))) (drop at t)) ≡ []
-      none (Whole k) e q = absurd (let z : ◌≡◌ {A = ℕ} 0 1 = cc in omega arith)
-      none (Broken k) e q = rw e
+      none : (r : Read) → v (drop at t) ≡ r → Err p ≡ shift at r → places_at at (pieces v (suc (n - (i + 1))) (drop at t)) ≡ []
+      none (Ok k) e q = absurd (let z : ◌≡◌ {A = ℕ} 0 1 = cc in omega arith)
+      none (Err k) e q = rw e
 
 pub all_whole : {v : Bytes → Read} {t : Bytes} {from n : ℕ} {l₀ l : List ℕ} {at i : ℕ} → Sofar v t from n l₀ l at i → i ≡ n → i ≤ length l
-    → (Whole at ≡ shift from (items v n (drop from t))) × (l ≡ tabled (places_at from (pieces v n (drop from t))) l₀)
+    → (Ok at ≡ shift from (items v n (drop from t))) × (l ≡ tabled (places_at from (pieces v n (drop from t))) l₀)
 unfolding items pieces places_at
 all_whole {v} {t} {from} {n} {l₀} {l} {at} {i} f e g =
     let z : n - i ≡ 0 = omega arith in

@@ -10,16 +10,17 @@ ghost use Rattle.update_loading.specs.Loading.{loaded, entries, tabled, EndOf};
 
 use msgpack_values::Read;
 use tuples::{FIELD_DEPTH, MAX_FIELDS, MAX_TUPLE};
-use update_parts::Natural;
 
 // So many fields, and where the first stands; the tuple is outside the rules, refusal 11; or the table
 // has fewer entries.
-#[derive(Clone, Copy)]
-pub enum Loaded {
+// Why a tuple is not loaded: it is outside the rules, refusal 11; or the table has fewer entries.
+#[derive(Clone, Copy, PartialEq, Eq)]
+pub enum Unloaded {
     Bad,
     NoRoom,
-    Fields(usize, usize),
 }
+
+pub type Loaded = Result<(usize, usize), Unloaded>;
 
 // The first bytes of a number of two bytes, and of strings whose length stands in one byte and in two.
 const UINT_16: u8 = 0xcd;
@@ -92,10 +93,10 @@ fn measure(tuple: &[u8], from: usize, n: usize, table: &mut [u32]) -> Read
             at = quick;
         } else {
             match msgpack_values::read_value(tuple, at, FIELD_DEPTH) {
-                Read::Broken(place) => {
-                    return Read::Broken(place);
+                Err(place) => {
+                    return Err(place);
                 }
-                Read::Whole(end) => {
+                Ok(end) => {
                     table[i] = update_places::place_of(at, end - at);
                     at = end;
                 }
@@ -103,7 +104,7 @@ fn measure(tuple: &[u8], from: usize, n: usize, table: &mut [u32]) -> Read
         }
         i += 1;
     }
-    Read::Whole(at)
+    Ok(at)
 }
 
 // The tuple's fields, as far as the table has room.
@@ -112,23 +113,23 @@ pub fn load(tuple: &[u8], table: &mut [u32]) -> Loaded
         × (table.new ≡ tabled (entries (length table.old) tuple.now) table.old) }
 {
     if MAX_TUPLE < tuple.len() {
-        return Loaded::Bad;
+        return Err(Unloaded::Bad);
     }
-    let Natural::Is(count, from) = update_parts::count_at(tuple, 0) else {
-        return Loaded::Bad;
+    let Some((count, from)) = update_parts::count_at(tuple, 0) else {
+        return Err(Unloaded::Bad);
     };
     let n = count as usize;
     if MAX_FIELDS < n {
-        return Loaded::Bad;
+        return Err(Unloaded::Bad);
     }
     if table.len() < n {
-        return Loaded::NoRoom;
+        return Err(Unloaded::NoRoom);
     }
-    let Read::Whole(end) = measure(tuple, from, n, table) else {
-        return Loaded::Bad;
+    let Ok(end) = measure(tuple, from, n, table) else {
+        return Err(Unloaded::Bad);
     };
     if end != tuple.len() {
-        return Loaded::Bad;
+        return Err(Unloaded::Bad);
     }
-    Loaded::Fields(n, from)
+    Ok((n, from))
 }

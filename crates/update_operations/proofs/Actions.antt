@@ -1,4 +1,5 @@
 -- What an action's argument makes of it, and the way back from the action that was found. Assumes nothing.
+use Rattle.std.specs.Prelude.{Some, None, Option}
 use mathlib.Core.Path.{◌≡◌, refl, sym, subst, ap, ◌∙◌}
 use mathlib.Core.Bool.{Bool, true, false, ◌||◌}
 use mathlib.Core.List.{[], ◌++◌}
@@ -16,49 +17,45 @@ use Rattle.tuples.specs.Operation.{plus, minus, and, xor, or, assign, insert, re
 use Rattle.tuples.specs.Operation as Law
 use Rattle.update_parts.specs.Part.{signed_by, natural_by, span_by}
 use Rattle.update_operations.specs.Found.{placed, action_by, natural_mark, whole_mark, integer_mark, action_in}
-use Rattle.update_parts.specs.declared.Signed.TheVariants.{Is as IsSigned, Bad as NoSigned}
-use Rattle.update_parts.specs.declared.Natural.TheVariants.{Is as IsNatural, Bad as NoNatural}
-use Rattle.update_parts.specs.declared.Span.TheVariants.{Is as IsSpan, Bad as NoSpan}
 use Rattle.update_operations.specs.declared.Change.TheVariants.{Splice}
 use Rattle.update_operations.specs.declared.Action.{Action, TheVariants.Alter, TheVariants.Assign, TheVariants.Insert}
-use Rattle.update_operations.specs.declared.Found.{Found, TheVariants.Is as IsFound, TheVariants.Bad as NotFound}
 use Rattle.update_parts.proofs.Leaving.{Ends, Leaving, part-is, leaving_nothing, leaving_pick, leaving_then, leaving_made, leaving_value, leaving_integer, leaving_least, leaving_position, leaving_string}
 use Rattle.update_operations.proofs.Answers.{on_signed, on_natural, on_span, made-is, then_is}
 
-abbrev is : Law.Action → ℕ → Found
-is a e = IsFound (placed a e) e
+abbrev is : Law.Action → ℕ → Option (Action × ℕ)
+is a e = Some (placed a e, e)
 
-abbrev pub by_span : (ℕ → Action) → Bytes → Got Bytes → Found
-by_span K l g = on_span (λ a. IsFound (K a)) NotFound (span_by l g)
+abbrev pub by_span : (ℕ → Action) → Bytes → Got Bytes → Option (Action × ℕ)
+by_span K l g = on_span (λ a. (λ a. Some ((K a), a))) None (span_by l g)
 
 span : (K : ℕ → Action) (k : Bytes → Law.Action) (l : Bytes) → ((b : Bytes) (e : ℕ) → K (e - length b) ≡ placed (k b) e)
     → (d : Decoder Bytes) (s : Bytes) → by_span K l (d s) ≡ action_by l (made k d s)
-span K k l f d s = made-is (λ b e. IsSpan (e - length b) e) NoSpan is NotFound (on_span (λ a. IsFound (K a)) NotFound) l refl k (λ b e. ap (λ x. IsFound x e) (f b e)) d s
+span K k l f d s = made-is (λ b e. Some (e - length b, e)) None is None (on_span (λ a. (λ a. Some ((K a), a))) None) l refl k (λ b e. ap (λ x. Some (x, e)) (f b e)) d s
 
 -- ---- an array of three, by what the code reads for its mark
 
-abbrev by_signed : (Int → ℕ → Found) → Bytes → Bytes → Found
-by_signed K l s = on_signed K NotFound (signed_by l (any_integer s))
+abbrev by_signed : (Int → ℕ → (Option (Action × ℕ))) → Bytes → Bytes → Option (Action × ℕ)
+by_signed K l s = on_signed K None (signed_by l (any_integer s))
 
 -- an integer that is `low` at least
-least : (c low : ℕ) (k : ℕ → Law.Action) (l s : Bytes) → ((n e : ℕ) → natural_mark c n e ≡ pick (leb low n) (is (k n) e) NotFound)
+least : (c low : ℕ) (k : ℕ → Law.Action) (l s : Bytes) → ((n e : ℕ) → natural_mark c n e ≡ pick (leb low n) (is (k n) e) None)
     → by_signed (whole_mark c) l s ≡ action_by l (made k (at_least low) s)
 unfolding made at_least then on_got floor
 least c low k l s f = go (any_integer s)
   where
-    held : (t : Bool) (n : ℕ) (r : Bytes) → pick t (is (k n) (length l - length r)) NotFound ≡ action_by l (on_got (pick t (gets n r) fails) (λ a r. gets (k a) r))
+    held : (t : Bool) (n : ℕ) (r : Bytes) → pick t (is (k n) (length l - length r)) None ≡ action_by l (on_got (pick t (gets n r) fails) (λ a r. gets (k a) r))
     held true n r = refl
     held false n r = refl
 
-    go : (g : Got Int) → on_signed (whole_mark c) NotFound (signed_by l g) ≡ action_by l (on_got (on_got g (floor low)) (λ a r. gets (k a) r))
+    go : (g : Got Int) → on_signed (whole_mark c) None (signed_by l g) ≡ action_by l (on_got (on_got g (floor low)) (λ a r. gets (k a) r))
     go fails = refl
     go (gets (FromZero n) r) = f n (length l - length r) ∙ held (leb low n) n r
     go (gets (BelowZero m) r) = refl
 
-from_0 : (x : Found) (n : ℕ) → x ≡ pick (leb 0 n) x NotFound
+from_0 : (x : (Option (Action × ℕ))) (n : ℕ) → x ≡ pick (leb 0 n) x None
 from_0 x n = rw (le-leb 0 n (omega arith))
 
-from_1 : (n e : ℕ) → natural_mark 0x23 n e ≡ pick (leb 1 n) (is (remove n) e) NotFound
+from_1 : (n e : ℕ) → natural_mark 0x23 n e ≡ pick (leb 1 n) (is (remove n) e) None
 from_1 zero e = refl
 from_1 (suc n) e = rw (le-leb 1 (suc n) (omega arith), ne_eqb (suc n) 0 (λ h. omega arith))
 
@@ -66,7 +63,7 @@ by_mark : (P : ℕ → Type 0) (c k : ℕ) → P k → ((c ≡ k → ⊥) → P 
 by_mark P c k f g = ⊎_elim (λ e. subst P (sym e) f) g (equal c k)
 
 module _ (l s : Bytes) where
-  three_by : Bool → ℕ → Found
+  three_by : Bool → ℕ → Option (Action × ℕ)
   three_by true c = by_span (pick (eqb c 0x3d) Assign Insert) l (any_value s)
   three_by false c = by_signed (integer_mark c) l s
 
@@ -74,14 +71,14 @@ module _ (l s : Bytes) where
   Three c = three_by (eqb c 0x3d || eqb c 0x21) c ≡ action_by l (three c s)
 
   signed : (k : Int → Law.Action) → by_signed (λ z e. is (k z) e) l s ≡ action_by l (made k any_integer s)
-  signed k = made-is IsSigned NoSigned is NotFound (on_signed (λ z e. is (k z) e) NotFound) l refl k (λ _ _. refl) any_integer s
+  signed k = made-is Some (None, is) None (on_signed (λ z e. is (k z) e) None) l refl k (λ _ _. refl) any_integer s
 
   three_other : (c : ℕ) → (c ≡ 0x3d → ⊥) → (c ≡ 0x21 → ⊥) → (c ≡ 0x2b → ⊥) → (c ≡ 0x2d → ⊥) → (c ≡ 0x26 → ⊥) → (c ≡ 0x5e → ⊥) → (c ≡ 0x7c → ⊥) → (c ≡ 0x23 → ⊥) → Three c
   unfolding three_by three nothing
   three_other c h1 h2 h3 h4 h5 h6 h7 h8 =
       rw (ne_eqb c 0x3d h1, ne_eqb c 0x21 h2, ne_eqb c 0x2b h3, ne_eqb c 0x2d h4, ne_eqb c 0x26 h5, ne_eqb c 0x5e h6, ne_eqb c 0x7c h7, ne_eqb c 0x23 h8) (go (any_integer s))
     where
-      go : (g : Got Int) → on_signed (integer_mark c) NotFound (signed_by l g) ≡ NotFound
+      go : (g : Got Int) → on_signed (integer_mark c) None (signed_by l g) ≡ None
       go fails = refl
       go (gets (FromZero n) r) = rw (ne_eqb c 0x2b h3, ne_eqb c 0x2d h4, ne_eqb c 0x26 h5, ne_eqb c 0x5e h6, ne_eqb c 0x7c h7, ne_eqb c 0x23 h8)
       go (gets (BelowZero m) r) = rw (ne_eqb c 0x2b h3, ne_eqb c 0x2d h4)
@@ -104,27 +101,27 @@ module _ (l : Bytes) (at c : ℕ) where
   unfolding three_by
   three-value e = rw e at (three-is l (drop at l) c)
 
-  pub three-integer : (eqb c 0x3d || eqb c 0x21) ≡ false → on_signed (integer_mark c) NotFound (signed_by l (any_integer (drop at l))) ≡ action_by l (three c (drop at l))
+  pub three-integer : (eqb c 0x3d || eqb c 0x21) ≡ false → on_signed (integer_mark c) None (signed_by l (any_integer (drop at l))) ≡ action_by l (three c (drop at l))
   unfolding three_by
   three-integer e = rw e at (three-is l (drop at l) c)
 
 -- ---- an array of five
 
 pub five-is : (l : Bytes) (at base : ℕ)
-    → on_natural (λ p e. on_natural (λ k j. by_span (λ a. Alter (Splice p k a)) l (string (drop j l))) NotFound (natural_by l (at_least 0 (drop e l)))) NotFound (natural_by l (position base (drop at l)))
+    → on_natural (λ p e. on_natural (λ k j. by_span (λ a. Alter (Splice p k a)) l (string (drop j l))) None (natural_by l (at_least 0 (drop e l)))) None (natural_by l (position base (drop at l)))
     ≡ action_by l (five base 0x3a (drop at l))
 unfolding five
 five-is l at base =
-    then_is IsNatural NoNatural is NotFound (on_natural _ NotFound) l refl (leaving_position base) _
-    (λ p. then_is IsNatural NoNatural is NotFound (on_natural _ NotFound) l refl (leaving_least 0) _ (λ k j. span (λ a. Alter (Splice p k a)) (splice p k) l (λ _ _. refl) string (drop j l))) at
+    then_is Some (None, is) None (on_natural _ None) l refl (leaving_position base) _
+    (λ p. then_is Some (None, is) None (on_natural _ None) l refl (leaving_least 0) _ (λ k j. span (λ a. Alter (Splice p k a)) (splice p k) l (λ _ _. refl) string (drop j l))) at
 
-pub five_other : (l : Bytes) (base c : ℕ) (s : Bytes) → (c ≡ 0x3a → ⊥) → NotFound ≡ action_by l (five base c s)
+pub five_other : (l : Bytes) (base c : ℕ) (s : Bytes) → (c ≡ 0x3a → ⊥) → None ≡ action_by l (five base c s)
 unfolding five nothing
 five_other l base c s h = rw (ne_eqb c 0x3a h)
 
 -- ---- by the count
 
-pub action_other : (l : Bytes) (base n c : ℕ) (s : Bytes) → (n ≡ 3 → ⊥) → (n ≡ 5 → ⊥) → NotFound ≡ action_by l (action_of base n c s)
+pub action_other : (l : Bytes) (base n c : ℕ) (s : Bytes) → (n ≡ 3 → ⊥) → (n ≡ 5 → ⊥) → None ≡ action_by l (action_of base n c s)
 unfolding action_of nothing
 action_other l base n c s h k = rw (ne_eqb n 3 h, ne_eqb n 5 k)
 

@@ -1,4 +1,5 @@
 -- An answer of the code, and what is made of it: what the definition gets, one part after the other. Assumes nothing.
+use Rattle.std.specs.Prelude.{Some, None, Option}
 use mathlib.Core.Path.{◌≡◌, ap, ◌∙◌}
 use Prim.Native.Nat.{ℕ, ◌-◌}
 use lib.ListN.{length, drop}
@@ -6,23 +7,20 @@ use Rattle.msgpack_first_bytes.specs.Bytes.{Bytes}
 use Rattle.msgpack_scalars.specs.declared.Int.{Int}
 use Rattle.tuples.specs.Decoding.{Got, fails, gets, Decoder, on_got, then, made}
 use Rattle.update_parts.specs.Part.{found}
-use Rattle.update_parts.specs.declared.Signed.{Signed, TheVariants.Is as IsSigned, TheVariants.Bad as NoSigned}
-use Rattle.update_parts.specs.declared.Natural.{Natural, TheVariants.Is as IsNatural, TheVariants.Bad as NoNatural}
-use Rattle.update_parts.specs.declared.Span.{Span, TheVariants.Is as IsSpan, TheVariants.Bad as NoSpan}
 use Rattle.update_parts.proofs.Leaving.{Leaves, Leaving, rest-after, leaves_at}
 
 module _ {X : Type 0} where
-  abbrev pub on_signed : (Int → ℕ → X) → X → Signed → X
-  on_signed K b (IsSigned z e) = K z e
-  on_signed K b NoSigned = b
+  abbrev pub on_signed : (Int → ℕ → X) → X → Option (Int × ℕ) → X
+  on_signed K b (Some (z, e)) = K z e
+  on_signed K b None = b
 
-  abbrev pub on_natural : (ℕ → ℕ → X) → X → Natural → X
-  on_natural K b (IsNatural n e) = K n e
-  on_natural K b NoNatural = b
+  abbrev pub on_natural : (ℕ → ℕ → X) → X → Option (ℕ × ℕ) → X
+  on_natural K b (Some (n, e)) = K n e
+  on_natural K b None = b
 
-  abbrev pub on_span : (ℕ → ℕ → X) → X → Span → X
-  on_span K b (IsSpan a e) = K a e
-  on_span K b NoSpan = b
+  abbrev pub on_span : (ℕ → ℕ → X) → X → Option (ℕ × ℕ) → X
+  on_span K b (Some (a, e)) = K a e
+  on_span K b None = b
 
 -- `on` takes the answer R for a part on to the answer X for the whole
 module _ {A B R X : Type 0} (is : A → ℕ → R) (bad : R) (is' : B → ℕ → X) (bad' : X) (on : R → X) (l : Bytes) (b : on bad ≡ bad') where

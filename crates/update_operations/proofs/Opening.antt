@@ -1,4 +1,5 @@
 -- How an operation begins, what follows, and the way back from an operation that was decoded. Assumes nothing.
+use Rattle.std.specs.Prelude.{Some, None, Option}
 use mathlib.Core.Path.{◌≡◌, refl, sym, ap, ◌∙◌}
 use Prim.Native.Nat.{ℕ, ◌-◌, ◌≤◌}
 use native.Mathlib.Omega.{arith}
@@ -9,15 +10,9 @@ use Rattle.msgpack_scalars.specs.declared.Int.{Int}
 use Rattle.tuples.specs.Decoding.{Got, fails, gets, Decoder, on_got, then, made, any_integer, count, mark, less}
 use Rattle.tuples.specs.Operation.{Operation, action_of, operation}
 use Rattle.update_parts.specs.Part.{signed_by, natural_by}
-use Rattle.update_numbers.specs.FieldNumber.{field_by}
+use Rattle.update_numbers.specs.FieldNumber.{field_by, Field}
 use Rattle.update_operations.specs.Found.{placed, action_by, action_in, Opening, opening, opened_by, decoded_by}
-use Rattle.update_parts.specs.declared.Signed.TheVariants.{Is as IsSigned, Bad as NoSigned}
-use Rattle.update_parts.specs.declared.Natural.TheVariants.{Is as IsNatural, Bad as NoNatural}
-use Rattle.update_numbers.specs.declared.Field.{Field}
 use Rattle.update_operations.specs.declared.Action.{Action}
-use Rattle.update_operations.specs.declared.Found.{Found, TheVariants.Is as IsFound, TheVariants.Bad as NotFound}
-use Rattle.update_operations.specs.declared.Opened.{Opened, TheVariants.Is as IsOpened, TheVariants.Bad as NotOpened}
-use Rattle.update_operations.specs.declared.Decoded.{Decoded, TheVariants.Is as IsDecoded, TheVariants.Bad as NotDecoded}
 use Rattle.update_parts.proofs.Leaving.{Leaves, Leaving, none, rest-after, leaves_at, leaving_then, leaving_made, leaving_integer, leaving_count, leaving_mark}
 use Rattle.update_operations.proofs.Answers.{on_signed, on_natural, made-is, then_is}
 use Rattle.update_operations.proofs.Actions.{bytes_of, action-back, leaving_action}
@@ -27,17 +22,17 @@ use Rattle.update_operations.proofs.Actions.{bytes_of, action-back, leaving_acti
 abbrev opens : ℕ → ℕ → Int → Opening
 opens n c z = record { count = n; mark = c; number = z }
 
-abbrev is_opened : Opening → ℕ → Opened
-is_opened o e = IsOpened o.count o.mark o.number e
+abbrev is_opened : Opening → ℕ → Option (ℕ × ℕ × Int × ℕ)
+is_opened o e = Some (o.count, o.mark, o.number, e)
 
 pub opening-is : (l : Bytes) (at : ℕ)
-    → on_natural (λ n e. on_natural (λ c j. on_signed (IsOpened n c) NotOpened (signed_by l (any_integer (drop j l)))) NotOpened (natural_by l (mark (drop e l)))) NotOpened (natural_by l (count (drop at l)))
+    → on_natural (λ n e. on_natural (λ c j. on_signed ((λ a b. Some (n, c, a, b))) None (signed_by l (any_integer (drop j l)))) None (natural_by l (mark (drop e l)))) None (natural_by l (count (drop at l)))
     ≡ opened_by l (opening (drop at l))
 unfolding opening
 opening-is l at =
-    then_is IsNatural NoNatural is_opened NotOpened (on_natural _ NotOpened) l refl leaving_count _
-    (λ n. then_is IsNatural NoNatural is_opened NotOpened (on_natural _ NotOpened) l refl leaving_mark _
-    (λ c j. made-is IsSigned NoSigned is_opened NotOpened (on_signed (IsOpened n c) NotOpened) l refl (opens n c) (λ _ _. refl) any_integer (drop j l))) at
+    then_is Some (None, is_opened) None (on_natural _ None) l refl leaving_count _
+    (λ n. then_is Some (None, is_opened) None (on_natural _ None) l refl leaving_mark _
+    (λ c j. made-is Some (None, is_opened) None (on_signed ((λ a b. Some (n, c, a, b))) None) l refl (opens n c) (λ _ _. refl) any_integer (drop j l))) at
 
 leaving_opening : Leaving none opening
 unfolding opening
@@ -67,22 +62,22 @@ operation_opened base s = first (count s)
     first fails = refl
     first (gets n t) = second n (mark t)
 
-abbrev pub on_opened : {X : Type 0} → (ℕ → ℕ → Int → ℕ → X) → X → Opened → X
-on_opened K b (IsOpened n c z e) = K n c z e
-on_opened K b NotOpened = b
+abbrev pub on_opened : {X : Type 0} → (ℕ → ℕ → Int → ℕ → X) → X → Option (ℕ × ℕ × Int × ℕ) → X
+on_opened K b (Some (n, c, z, e)) = K n c z e
+on_opened K b None = b
 
-abbrev pub on_found : (Action → ℕ → Decoded) → Found → Decoded
-on_found K (IsFound x e) = K x e
-on_found K NotFound = NotDecoded
+abbrev pub on_found : (Action → ℕ → (Option (Field × Action × ℕ))) → Option (Action × ℕ) → Option (Field × Action × ℕ)
+on_found K (Some (x, e)) = K x e
+on_found K None = None
 
-abbrev is_decoded : Operation → ℕ → Decoded
-is_decoded o e = IsDecoded (field_by o.number) (placed o.action e) e
+abbrev is_decoded : Operation → ℕ → Option (Field × Action × ℕ)
+is_decoded o e = Some (field_by o.number, placed o.action e, e)
 
 pub operation_decoded : (base : ℕ) (l : Bytes) (at : ℕ)
-    → on_opened (λ n c z e. on_found (IsDecoded (field_by (less base z))) (action_by l (action_of base n c (drop e l)))) NotDecoded (opened_by l (opening (drop at l))) ≡ decoded_by l (operation base (drop at l))
+    → on_opened (λ n c z e. on_found ((λ a b. Some ((field_by (less base z)), a, b))) (action_by l (action_of base n c (drop e l)))) None (opened_by l (opening (drop at l))) ≡ decoded_by l (operation base (drop at l))
 operation_decoded base l at =
-    then_is is_opened NotOpened is_decoded NotDecoded (on_opened _ NotDecoded) l refl leaving_opening (acted base)
-    (λ o e. made-is (λ a e. IsFound (placed a e) e) NotFound is_decoded NotDecoded (on_found (IsDecoded (field_by (less base o.number)))) l refl
+    then_is is_opened None is_decoded None (on_opened _ None) l refl leaving_opening (acted base)
+    (λ o e. made-is (λ a e. Some (placed a e, e)) None is_decoded None (on_found ((λ a b. Some ((field_by (less base o.number)), a, b)))) l refl
     (λ a. record { number = less base o.number; action = a }) (λ _ _. refl) (action_of base o.count o.mark) (drop e l)) at
     ∙ ap (decoded_by l) (operation_opened base (drop at l))
 
@@ -105,19 +100,19 @@ pub record IsOperation (base : ℕ) (l : Bytes) (at : ℕ) (fd : Field) (x : Act
   pub end : e ≤ length l
   pub within : length (bytes_of o.action) ≤ e
 
-module _ (base : ℕ) (l : Bytes) (at : ℕ) {r : Decoded} (h : r ≡ decoded_by l (operation base (drop at l))) where
-  pub operation_bad : r ≡ NotDecoded → operation base (drop at l) ≡ fails
+module _ (base : ℕ) (l : Bytes) (at : ℕ) {r : (Option (Field × Action × ℕ))} (h : r ≡ decoded_by l (operation base (drop at l))) where
+  pub operation_bad : r ≡ None → operation base (drop at l) ≡ fails
   operation_bad q = go (operation base (drop at l)) (sym q ∙ h)
     where
-      go : (g : Got Operation) → NotDecoded ≡ decoded_by l g → g ≡ fails
+      go : (g : Got Operation) → None ≡ decoded_by l g → g ≡ fails
       go fails i = refl
       go (gets o s) i = cc
 
-  pub operation-is : {fd : Field} {x : Action} {e : ℕ} → r ≡ IsDecoded fd x e → IsOperation base l at fd x e
+  pub operation-is : {fd : Field} {x : Action} {e : ℕ} → r ≡ Some (fd, x, e) → IsOperation base l at fd x e
   unfolding operation_bytes
   operation-is {fd} {x} {e} q = go (operation base (drop at l)) refl (leaves_at (leaving_operation base) l at) (sym q ∙ h)
     where
-      go : (g : Got Operation) → operation base (drop at l) ≡ g → Leaves operation_bytes l g → IsDecoded fd x e ≡ decoded_by l g → IsOperation base l at fd x e
+      go : (g : Got Operation) → operation base (drop at l) ≡ g → Leaves operation_bytes l g → Some (fd, x, e) ≡ decoded_by l g → IsOperation base l at fd x e
       go fails j k i = impossible cc
       go (gets o s) j k i =
           let b : x ≡ placed o.action (length l - length s) = cc in

@@ -1,5 +1,5 @@
 -- Inner: what the code finds in a list's bytes, as what the definitions get from them.
-use Rattle.std.specs.Prelude.{ℕ, ◌-◌, true, false, eqb, length}
+use Rattle.std.specs.Prelude.{ℕ, ◌-◌, true, false, eqb, length, Some, None, Option}
 use Rattle.msgpack_first_bytes.specs.Bytes.{Bytes, pick}
 use Rattle.msgpack_scalars.specs.declared.Int.{Int}
 use Rattle.msgpack_scalars.specs.declared.Int.TheVariants.{FromZero, BelowZero}
@@ -14,12 +14,6 @@ use Rattle.update_operations.specs.declared.Change.{Change}
 use Rattle.update_operations.specs.declared.Change.TheVariants.{Sum, Bits, Splice}
 use Rattle.update_operations.specs.declared.Action.{Action}
 use Rattle.update_operations.specs.declared.Action.TheVariants.{Alter, Assign, Insert, Remove}
-use Rattle.update_operations.specs.declared.Found.{Found}
-use Rattle.update_operations.specs.declared.Found.TheVariants.{Is as IsFound, Bad as NotFound}
-use Rattle.update_operations.specs.declared.Opened.{Opened}
-use Rattle.update_operations.specs.declared.Opened.TheVariants.{Is as IsOpened, Bad as NotOpened}
-use Rattle.update_operations.specs.declared.Decoded.{Decoded}
-use Rattle.update_operations.specs.declared.Decoded.TheVariants.{Is as IsDecoded, Bad as NotDecoded}
 
 -- ---- an action
 
@@ -35,23 +29,23 @@ placed (insert b) e = Insert (e - length b)
 placed (remove m) e = Remove m
 placed (splice p k b) e = Alter (Splice p k (e - length b))
 
-abbrev pub action_by : Bytes → Got Law.Action → Found
-action_by = found (λ a e. IsFound (placed a e) e) NotFound
+abbrev pub action_by : Bytes → Got Law.Action → Option (Action × ℕ)
+action_by = found (λ a e. Some (placed a e, e)) None
 
 -- by a mark and its argument, an integer
-abbrev pub natural_mark : ℕ → ℕ → ℕ → Found
+abbrev pub natural_mark : ℕ → ℕ → ℕ → Option (Action × ℕ)
 natural_mark c n e =
-    pick (eqb c 0x26) (IsFound (Alter (Bits And n)) e)
-    (pick (eqb c 0x5e) (IsFound (Alter (Bits Xor n)) e)
-    (pick (eqb c 0x7c) (IsFound (Alter (Bits Or n)) e)
-    (pick (eqb c 0x23) (pick (eqb n 0) NotFound (IsFound (Remove n) e)) NotFound)))
+    pick (eqb c 0x26) (Some (Alter (Bits And n), e))
+    (pick (eqb c 0x5e) (Some (Alter (Bits Xor n), e))
+    (pick (eqb c 0x7c) (Some (Alter (Bits Or n), e))
+    (pick (eqb c 0x23) (pick (eqb n 0) None (Some (Remove n, e))) None)))
 
-abbrev pub whole_mark : ℕ → Int → ℕ → Found
+abbrev pub whole_mark : ℕ → Int → ℕ → Option (Action × ℕ)
 whole_mark c (FromZero n) e = natural_mark c n e
-whole_mark c (BelowZero m) e = NotFound
+whole_mark c (BelowZero m) e = None
 
-abbrev pub integer_mark : ℕ → Int → ℕ → Found
-integer_mark c z e = pick (eqb c 0x2b) (IsFound (Alter (Sum false z)) e) (pick (eqb c 0x2d) (IsFound (Alter (Sum true z)) e) (whole_mark c z e))
+abbrev pub integer_mark : ℕ → Int → ℕ → Option (Action × ℕ)
+integer_mark c z e = pick (eqb c 0x2b) (Some (Alter (Sum false z), e)) (pick (eqb c 0x2d) (Some (Alter (Sum true z), e)) (whole_mark c z e))
 
 -- the action that it is, of an operation that ends at e
 abbrev pub bitwise_in : Bitwise → ℕ → Law.Action
@@ -80,10 +74,10 @@ pub record Opening : Type 0 where
 unfoldable pub opening : Decoder Opening
 opening = then count (λ n. then mark (λ c. made (λ z. record { count = n; mark = c; number = z }) any_integer))
 
-abbrev pub opened_by : Bytes → Got Opening → Opened
-opened_by = found (λ o e. IsOpened o.count o.mark o.number e) NotOpened
+abbrev pub opened_by : Bytes → Got Opening → Option (ℕ × ℕ × Int × ℕ)
+opened_by = found (λ o e. Some (o.count, o.mark, o.number, e)) None
 
 -- ---- an operation
 
-abbrev pub decoded_by : Bytes → Got Operation → Decoded
-decoded_by = found (λ o e. IsDecoded (field_by o.number) (placed o.action e) e) NotDecoded
+abbrev pub decoded_by : Bytes → Got Operation → Option (Field × Action × ℕ)
+decoded_by = found (λ o e. Some (field_by o.number, placed o.action e, e)) None

@@ -8,7 +8,6 @@ ghost use Rattle.update_operations.specs.Listing.{front};
 
 use msgpack_scalars::Int;
 use update_numbers::Field;
-use update_parts::{Natural, Signed, Span};
 
 // `&`, `^` and `|`.
 #[derive(Clone, Copy)]
@@ -36,63 +35,34 @@ pub enum Action {
     Remove(u64),
 }
 
-// An action, and the place after its operation.
-#[derive(Clone, Copy)]
-pub enum Found {
-    Is(Action, usize),
-    Bad,
-}
-
-// How an operation begins: the count of its array, its mark, its field number as it was sent, and
-// the place of what follows.
-#[derive(Clone, Copy)]
-enum Opened {
-    Is(u64, u64, Int, usize),
-    Bad,
-}
-
-// An operation: its field, the index base taken off, its action, and the place after it.
-#[derive(Clone, Copy)]
-pub enum Decoded {
-    Is(Field, Action, usize),
-    Bad,
-}
-
-// The count of a list's operations, and the place of the first; or its front is refused.
-#[derive(Clone, Copy)]
-pub enum Listed {
-    Good(usize, usize),
-    Bad,
-}
-
 // By a mark whose argument is an integer at least 0, and of `#` at least 1.
-fn by_natural(mark: u64, n: u64, end: usize) -> Found
+fn by_natural(mark: u64, n: u64, end: usize) -> Option<(Action, usize)>
     ensures { result ≡ natural_mark mark n end }
 {
     match mark {
-        0x26 => Found::Is(Action::Alter(Change::Bits(Bitwise::And, n)), end),
-        0x5e => Found::Is(Action::Alter(Change::Bits(Bitwise::Xor, n)), end),
-        0x7c => Found::Is(Action::Alter(Change::Bits(Bitwise::Or, n)), end),
+        0x26 => Some((Action::Alter(Change::Bits(Bitwise::And, n)), end)),
+        0x5e => Some((Action::Alter(Change::Bits(Bitwise::Xor, n)), end)),
+        0x7c => Some((Action::Alter(Change::Bits(Bitwise::Or, n)), end)),
         0x23 => {
             if n == 0 {
-                return Found::Bad;
+                return None;
             }
-            Found::Is(Action::Remove(n), end)
+            Some((Action::Remove(n), end))
         }
-        _ => Found::Bad,
+        _ => None,
     }
 }
 
 // By a mark whose argument is an integer.
-fn by_integer(mark: u64, z: Int, end: usize) -> Found
+fn by_integer(mark: u64, z: Int, end: usize) -> Option<(Action, usize)>
     ensures { result ≡ integer_mark mark z end }
 {
     match mark {
-        0x2b => Found::Is(Action::Alter(Change::Sum(false, z)), end),
-        0x2d => Found::Is(Action::Alter(Change::Sum(true, z)), end),
+        0x2b => Some((Action::Alter(Change::Sum(false, z)), end)),
+        0x2d => Some((Action::Alter(Change::Sum(true, z)), end)),
         _ => {
             let Int::FromZero(n) = z else {
-                return Found::Bad;
+                return None;
             };
             by_natural(mark, n, end)
         }
@@ -101,45 +71,45 @@ fn by_integer(mark: u64, z: Int, end: usize) -> Found
 
 // The action of an array of three, its argument at `at`. The integer is read in one place, so that the
 // compiler has one call to make.
-fn three_at(list: &[u8], at: usize, mark: u64) -> Found
+fn three_at(list: &[u8], at: usize, mark: u64) -> Option<(Action, usize)>
     ensures { result ≡ action_by list.now (three mark (drop at list.now)) }
 {
     if (mark == 0x3d) | (mark == 0x21) {
-        let Span::Is(start, end) = update_parts::any_value(list, at) else {
-            return Found::Bad;
+        let Some((start, end)) = update_parts::any_value(list, at) else {
+            return None;
         };
         if mark == 0x3d {
-            return Found::Is(Action::Assign(start), end);
+            return Some((Action::Assign(start), end));
         }
-        return Found::Is(Action::Insert(start), end);
+        return Some((Action::Insert(start), end));
     }
-    let Signed::Is(z, end) = update_numbers::any_integer(list, at) else {
-        return Found::Bad;
+    let Some((z, end)) = update_numbers::any_integer(list, at) else {
+        return None;
     };
     by_integer(mark, z, end)
 }
 
 // The action of an array of five: a splice, its position at `at`.
-fn five_at(list: &[u8], at: usize, mark: u64, base: u64) -> Found
+fn five_at(list: &[u8], at: usize, mark: u64, base: u64) -> Option<(Action, usize)>
     ensures { result ≡ action_by list.now (five base mark (drop at list.now)) }
 {
     if mark != 0x3a {
-        return Found::Bad;
+        return None;
     }
-    let Natural::Is(position, at_count) = update_numbers::position_at(list, at, base) else {
-        return Found::Bad;
+    let Some((position, at_count)) = update_numbers::position_at(list, at, base) else {
+        return None;
     };
-    let Natural::Is(count, at_argument) = update_numbers::at_least(list, at_count, 0) else {
-        return Found::Bad;
+    let Some((count, at_argument)) = update_numbers::at_least(list, at_count, 0) else {
+        return None;
     };
-    let Span::Is(start, end) = update_parts::string_at(list, at_argument) else {
-        return Found::Bad;
+    let Some((start, end)) = update_parts::string_at(list, at_argument) else {
+        return None;
     };
-    Found::Is(Action::Alter(Change::Splice(position, count, start)), end)
+    Some((Action::Alter(Change::Splice(position, count, start)), end))
 }
 
 // What an operation of `count` parts does by its mark; what follows its field number stands at `at`.
-fn action_at(list: &[u8], at: usize, count: u64, mark: u64, base: u64) -> Found
+fn action_at(list: &[u8], at: usize, count: u64, mark: u64, base: u64) -> Option<(Action, usize)>
     ensures { result ≡ action_by list.now (action_of base count mark (drop at list.now)) }
 {
     if count == 3 {
@@ -148,54 +118,54 @@ fn action_at(list: &[u8], at: usize, count: u64, mark: u64, base: u64) -> Found
     if count == 5 {
         return five_at(list, at, mark, base);
     }
-    Found::Bad
+    None
 }
 
 // How the operation at `at` begins.
-fn opening_at(list: &[u8], at: usize) -> Opened
+fn opening_at(list: &[u8], at: usize) -> Option<(u64, u64, Int, usize)>
     ensures { result ≡ opened_by list.now (opening (drop at list.now)) }
 {
-    let Natural::Is(count, at_mark) = update_parts::count_at(list, at) else {
-        return Opened::Bad;
+    let Some((count, at_mark)) = update_parts::count_at(list, at) else {
+        return None;
     };
-    let Natural::Is(mark, at_number) = update_parts::mark_at(list, at_mark) else {
-        return Opened::Bad;
+    let Some((mark, at_number)) = update_parts::mark_at(list, at_mark) else {
+        return None;
     };
-    let Signed::Is(number, after) = update_numbers::any_integer(list, at_number) else {
-        return Opened::Bad;
+    let Some((number, after)) = update_numbers::any_integer(list, at_number) else {
+        return None;
     };
-    Opened::Is(count, mark, number, after)
+    Some((count, mark, number, after))
 }
 
 // The operation at `at`.
-pub fn operation_at(list: &[u8], at: usize, base: u64) -> Decoded
+pub fn operation_at(list: &[u8], at: usize, base: u64) -> Option<(Field, Action, usize)>
     ensures { result ≡ decoded_by list.now (operation base (drop at list.now)) }
 {
-    let Opened::Is(count, mark, number, after) = opening_at(list, at) else {
-        return Decoded::Bad;
+    let Some((count, mark, number, after)) = opening_at(list, at) else {
+        return None;
     };
-    let Found::Is(action, end) = action_at(list, after, count, mark, base) else {
-        return Decoded::Bad;
+    let Some((action, end)) = action_at(list, after, count, mark, base) else {
+        return None;
     };
-    Decoded::Is(update_numbers::field_of(number, base), action, end)
+    Some((update_numbers::field_of(number, base), action, end))
 }
 
 // What the front of a list tells, before any of its operations is read.
-pub fn front_of(list: &[u8], base: u64) -> Listed
+pub fn front_of(list: &[u8], base: u64) -> Option<(usize, usize)>
     ensures { result ≡ front base list.now }
 {
     if 1 < base {
-        return Listed::Bad;
+        return None;
     }
     if tuples::MAX_LIST < list.len() {
-        return Listed::Bad;
+        return None;
     }
-    let Natural::Is(n, start) = update_parts::count_at(list, 0) else {
-        return Listed::Bad;
+    let Some((n, start)) = update_parts::count_at(list, 0) else {
+        return None;
     };
     let count = n as usize;
     if tuples::MAX_OPERATIONS < count {
-        return Listed::Bad;
+        return None;
     }
-    Listed::Good(count, start)
+    Some((count, start))
 }

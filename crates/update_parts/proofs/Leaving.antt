@@ -1,4 +1,5 @@
 -- A decoder leaves an end of what it was given, and the bytes that it got stand just before that: the way back from what the code finds. Assumes nothing.
+use Rattle.std.specs.Prelude.{Some, None, Ok, Err, Option}
 use mathlib.Core.Path.{◌≡◌, refl, sym, ap, ◌∙◌}
 use mathlib.Core.Bool.{Bool, true, false}
 use mathlib.Core.List.{[], ◌∷◌, ◌++◌, append_assoc}
@@ -8,19 +9,15 @@ use lib.Dec.{leb, eqb}
 use lib.ListN.{length, take, drop, length-append, take-append-drop}
 use lib.Seq.{drop-drop, take_at, drop_at}
 use Rattle.msgpack_first_bytes.specs.Bytes.{Bytes, pick}
-use Rattle.msgpack_values.specs.Value.{value}
-use Rattle.msgpack_values.specs.declared.Read.{Read, TheVariants.Whole, TheVariants.Broken}
-use Rattle.msgpack_scalars.specs.Integer.{integer}
+use Rattle.msgpack_values.specs.Value.{value, Read}
+use Rattle.msgpack_scalars.specs.Integer.{integer, Integer}
 use Rattle.msgpack_scalars.specs.Start.{string_by, array_by}
-use Rattle.msgpack_scalars.specs.Header.{header}
+use Rattle.msgpack_scalars.specs.Header.{header, Header}
 use Rattle.msgpack_scalars.specs.declared.Int.{Int, TheVariants.FromZero, TheVariants.BelowZero}
-use Rattle.msgpack_scalars.specs.declared.Integer.{Integer, TheVariants.Is as IsInt, TheVariants.Cut, TheVariants.Other as OtherInt}
-use Rattle.msgpack_scalars.specs.declared.Header.{Header, TheVariants.Is, TheVariants.Other}
 use Rattle.tuples.specs.Limits.{field_depth}
 use Rattle.tuples.specs.Decoding.{Got, fails, gets, Decoder, on_got, then, made, nothing, value_from, any_value, integer_from, any_integer, less, floor, at_least, position, string_from, string, count_from, count, mark}
 use Rattle.update_parts.specs.Part.{part, natural_by, span_by}
-use Rattle.update_parts.specs.declared.Natural.{Natural, TheVariants.Is as IsNatural, TheVariants.Bad as NoNatural}
-use Rattle.update_parts.specs.declared.Span.{Span, TheVariants.Is as IsSpan, TheVariants.Bad as NoSpan}
+use Rattle.msgpack_scalars.specs.declared.NoNumber.TheVariants.{Cut, Other}
 
 -- l ends with s
 abbrev pub Ends : Bytes → Bytes → Type 0
@@ -106,17 +103,17 @@ unfolding any_value value_from
 leaving_value = record { leaves = λ s. go s (value field_depth s) }
   where
     go : (s : Bytes) (x : Read) → Leaves all s (value_from x s)
-    go s (Whole k) = ([], sym (take-append-drop k s))
-    go s (Broken p) = tt
+    go s (Ok k) = ([], sym (take-append-drop k s))
+    go s (Err p) = tt
 
 pub leaving_integer : Leaving none any_integer
 unfolding any_integer integer_from
 leaving_integer = record { leaves = λ s. go s (integer s) }
   where
     go : (s : Bytes) (x : Integer) → Leaves none s (integer_from x s)
-    go s (IsInt z e) = ends_drop e s
-    go s Cut = tt
-    go s OtherInt = tt
+    go s (Ok (z, e)) = ends_drop e s
+    go s (Err Cut) = tt
+    go s (Err Other) = tt
 
 leaving_floor : (low : ℕ) (z : Int) → Leaving none (floor low z)
 unfolding floor
@@ -136,18 +133,18 @@ unfolding string string_from
 leaving_string = record { leaves = λ s. go s (header string_by s) }
   where
     go : (s : Bytes) (x : Header) → Leaves all s (string_from x s)
-    go s (Is n e) =
+    go s (Some (n, e)) =
         leaves_pick all (leb (e + n) (length s)) s (take n (drop e s)) (drop (e + n) s)
         (take e s, rw (← drop-drop n e s, take-append-drop n (drop e s), take-append-drop e s))
-    go s Other = tt
+    go s None = tt
 
 pub leaving_count : Leaving none count
 unfolding count count_from
 leaving_count = record { leaves = λ s. go s (header array_by s) }
   where
     go : (s : Bytes) (x : Header) → Leaves none s (count_from x s)
-    go s (Is n e) = ends_drop e s
-    go s Other = tt
+    go s (Some (n, e)) = ends_drop e s
+    go s None = tt
 
 pub leaving_mark : Leaving none mark
 unfolding mark
@@ -160,24 +157,24 @@ leaving_mark = record { leaves = go }
 
 -- ---- the way back
 
-abbrev pub natural_in : Bytes → Natural → Got ℕ
-natural_in l (IsNatural n e) = gets n (drop e l)
-natural_in l NoNatural = fails
+abbrev pub natural_in : Bytes → Option (ℕ × ℕ) → Got ℕ
+natural_in l (Some (n, e)) = gets n (drop e l)
+natural_in l None = fails
 
 pub natural-back : (l : Bytes) (g : Got ℕ) → Leaves none l g → natural_in l (natural_by l g) ≡ g
 natural-back l fails h = refl
 natural-back l (gets n s) h = ap (gets n) (rest-is h)
 
-abbrev pub span_in : Bytes → Span → Got Bytes
-span_in l (IsSpan a e) = gets (part a e l) (drop e l)
-span_in l NoSpan = fails
+abbrev pub span_in : Bytes → Option (ℕ × ℕ) → Got Bytes
+span_in l (Some (a, e)) = gets (part a e l) (drop e l)
+span_in l None = fails
 
 pub span_back : (l : Bytes) (g : Got Bytes) → Leaves all l g → span_in l (span_by l g) ≡ g
 span_back l fails h = refl
 span_back l (gets b s) h = rw (part-is b s h, rest-after b s h)
 
 -- its places are in order, and within l
-pub span_order : (l : Bytes) (g : Got Bytes) {a e : ℕ} → IsSpan a e ≡ span_by l g → (a ≤ e) × (e ≤ length l)
+pub span_order : (l : Bytes) (g : Got Bytes) {a e : ℕ} → Some (a, e) ≡ span_by l g → (a ≤ e) × (e ≤ length l)
 span_order l fails q = absurd (let z : ◌≡◌ {A = ℕ} 0 1 = cc in omega arith)
 span_order l (gets b s) {a} {e} q =
     let i : a ≡ length l - length s - length b = cc in

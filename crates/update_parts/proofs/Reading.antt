@@ -1,4 +1,5 @@
 -- What an operation is read from: each answer of the code is what the definition gets. Assumes nothing.
+use Rattle.std.specs.Prelude.{Some, None, Ok, Err, Option}
 use mathlib.Core.Path.{◌≡◌, refl, sym, ap, ◌∙◌}
 use mathlib.Core.Logic.{⊎_elim}
 use mathlib.Core.List.{[], ◌∷◌}
@@ -12,22 +13,15 @@ use Rattle.msgpack_first_bytes.specs.Bytes.{Bytes, pick}
 use Rattle.msgpack_first_bytes.specs.FirstByte.{form_of}
 use Rattle.msgpack_first_bytes.specs.declared.Kind.{Kind, TheVariants.Unsigned, TheVariants.Signed}
 use Rattle.msgpack_first_bytes.specs.declared.Form.{Form}
-use Rattle.msgpack_values.specs.Value.{shift, value}
-use Rattle.msgpack_values.specs.declared.Read.{Read, TheVariants.Whole, TheVariants.Broken}
+use Rattle.msgpack_values.specs.Value.{shift, value, Read}
 use Rattle.msgpack_values.proofs.Local.{value_good, value_pos}
-use Rattle.msgpack_scalars.specs.Start.{scalar_of, string_by, array_by}
-use Rattle.msgpack_scalars.specs.Integer.{due_in, due, unsigned_by, unsigned, signed_by, signed, adding, integer, shift_integer}
-use Rattle.msgpack_scalars.specs.Header.{counted, header, shift_header}
-use Rattle.msgpack_scalars.specs.declared.Start.{Start, TheVariants.Here, TheVariants.Elsewhere}
-use Rattle.msgpack_scalars.specs.declared.Due.{Due, TheVariants.More, TheVariants.Cut as CutDue, TheVariants.Other as OtherDue}
-use Rattle.msgpack_scalars.specs.declared.Integer.{Integer, TheVariants.Is as IsInt, TheVariants.Cut as CutInt, TheVariants.Other as OtherInt}
-use Rattle.msgpack_scalars.specs.declared.Header.{Header, TheVariants.Is as IsHeader, TheVariants.Other as OtherHeader}
+use Rattle.msgpack_scalars.specs.Start.{scalar_of, string_by, array_by, Start}
+use Rattle.msgpack_scalars.specs.Integer.{due_in, due, unsigned_by, unsigned, signed_by, signed, adding, integer, shift_integer, Due, Integer}
+use Rattle.msgpack_scalars.specs.Header.{counted, header, shift_header, Header}
 use Rattle.msgpack_first_bytes.proofs.Logic.{by_leb, either}
 use Rattle.tuples.specs.Decoding.{value_from, any_value, integer_from, any_integer, string_from, string, count_from, count, mark}
 use Rattle.update_parts.specs.Part.{part, signed_by as signedPart, natural_by, span_by}
-use Rattle.update_parts.specs.declared.Signed.{Signed as SignedPart, TheVariants.Is as IsSigned, TheVariants.Bad as NoSigned}
-use Rattle.update_parts.specs.declared.Natural.{Natural, TheVariants.Is as IsNatural, TheVariants.Bad as NoNatural}
-use Rattle.update_parts.specs.declared.Span.{Span, TheVariants.Is as IsSpan, TheVariants.Bad as NoSpan}
+use Rattle.msgpack_scalars.specs.declared.NoNumber.TheVariants.{Cut, Other}
 
 -- k bytes from a place on, and what is left after them
 ends : (l : Bytes) (at k : ℕ) → 1 ≤ k → k ≤ length (drop at l) → at + k ≡ length l - length (drop k (drop at l))
@@ -36,9 +30,9 @@ ends l at k h i = let m = simp length-drop at i in simp (length-drop, length-dro
 -- ---- an integer takes a byte at least, and n at most
 
 abbrev DueFits : ℕ → Due → Type 0
-DueFits n (More f) = 1 + f ≤ n
-DueFits n CutDue = Unit {0}
-DueFits n OtherDue = Unit {0}
+DueFits n (Ok f) = 1 + f ≤ n
+DueFits n (Err Cut) = Unit {0}
+DueFits n (Err Other) = Unit {0}
 
 due-fits : (k : Kind) (s : Bytes) → DueFits (length s) (due k s)
 unfolding due due_in
@@ -46,63 +40,63 @@ due-fits k [] = tt
 due-fits k (b ∷ s) = go (scalar_of k (form_of b))
   where
     go : (x : Start) → DueFits (suc (length s)) (due_in x s)
-    go (Here w f) = by_leb (DueFits (suc (length s))) f (length s) (λ h. omega arith) (λ _. tt)
-    go Elsewhere = tt
+    go (Some (w, f)) = by_leb (DueFits (suc (length s))) f (length s) (λ h. omega arith) (λ _. tt)
+    go None = tt
 
 abbrev IntegerFits : ℕ → Integer → Type 0
-IntegerFits n (IsInt z e) = (1 ≤ e) × (e ≤ n)
-IntegerFits n CutInt = Unit {0}
-IntegerFits n OtherInt = Unit {0}
+IntegerFits n (Ok (z, e)) = (1 ≤ e) × (e ≤ n)
+IntegerFits n (Err Cut) = Unit {0}
+IntegerFits n (Err Other) = Unit {0}
 
 integer-fits : (s : Bytes) → IntegerFits (length s) (integer s)
 unfolding integer unsigned signed unsigned_by signed_by adding
 integer-fits s = go (due Unsigned s) (due-fits Unsigned s) (due Signed s) (due-fits Signed s)
   where
     go : (u : Due) → DueFits (length s) u → (v : Due) → DueFits (length s) v → IntegerFits (length s) (adding (unsigned_by u s) (signed_by v s))
-    go (More f) h v k = (omega arith, h)
-    go CutDue h v k = tt
-    go OtherDue h (More f) k = (omega arith, k)
-    go OtherDue h CutDue k = tt
-    go OtherDue h OtherDue k = tt
+    go (Ok f) h v k = (omega arith, h)
+    go (Err Cut) h v k = tt
+    go (Err Other) h (Ok f) k = (omega arith, k)
+    go (Err Other) h (Err Cut) k = tt
+    go (Err Other) h (Err Other) k = tt
 
-abbrev pub signed_of : Integer → SignedPart
-signed_of (IsInt z e) = IsSigned z e
-signed_of CutInt = NoSigned
-signed_of OtherInt = NoSigned
+abbrev pub signed_of : Integer → Option (Int × ℕ)
+signed_of (Ok (z, e)) = Some (z, e)
+signed_of (Err Cut) = None
+signed_of (Err Other) = None
 
 pub integer-at : (l : Bytes) (at : ℕ) (r : Integer) → r ≡ shift_integer at (integer (drop at l)) → signed_of r ≡ signedPart l (any_integer (drop at l))
 unfolding any_integer integer_from
 integer-at l at r e = rw e (go (integer (drop at l)) (integer-fits (drop at l)))
   where
     go : (x : Integer) → IntegerFits (length (drop at l)) x → signed_of (shift_integer at x) ≡ signedPart l (integer_from x (drop at l))
-    go (IsInt z k) h = ap (IsSigned z) (ends l at k h.0 h.1)
-    go CutInt h = refl
-    go OtherInt h = refl
+    go (Ok (z, k)) h = ap (λ a. Some (z, a)) (ends l at k h.0 h.1)
+    go (Err Cut) h = refl
+    go (Err Other) h = refl
 
 -- ---- a value
 
-abbrev pub span_of : ℕ → Read → Span
-span_of at (Whole e) = IsSpan at e
-span_of at (Broken p) = NoSpan
+abbrev pub span_of : ℕ → Read → Option (ℕ × ℕ)
+span_of at (Ok e) = Some (at, e)
+span_of at (Err p) = None
 
 pub value-at : (l : Bytes) (at : ℕ) (r : Read) → r ≡ shift at (value 12 (drop at l)) → span_of at r ≡ span_by l (any_value (drop at l))
 unfolding any_value value_from
 value-at l at r e = rw e (go (value 12 (drop at l)) refl)
   where
     go : (x : Read) → value 12 (drop at l) ≡ x → span_of at (shift at x) ≡ span_by l (value_from x (drop at l))
-    go (Whole k) q =
+    go (Ok k) q =
         let g : k ≤ length (drop at l) = (value_good 12 (drop at l) k q).0 in
         let i = ends l at k (value_pos 12 (drop at l) k q) g in
         let m = length-take k (drop at l) in
         let j : at ≡ length l - length (drop k (drop at l)) - length (take k (drop at l)) = omega arith in
         cc
-    go (Broken p) q = refl
+    go (Err p) q = refl
 
 -- ---- a header takes a byte at least, and n at most
 
 abbrev HeaderFits : ℕ → Header → Type 0
-HeaderFits n (IsHeader m e) = (1 ≤ e) × (e ≤ n)
-HeaderFits n OtherHeader = Unit {0}
+HeaderFits n (Some (m, e)) = (1 ≤ e) × (e ≤ n)
+HeaderFits n None = Unit {0}
 
 header-fits : (by : Form → Start) (s : Bytes) → HeaderFits (length s) (header by s)
 unfolding header counted
@@ -110,42 +104,42 @@ header-fits by [] = tt
 header-fits by (b ∷ s) = go (by (form_of b))
   where
     go : (x : Start) → HeaderFits (suc (length s)) (counted x s)
-    go (Here w f) = by_leb (HeaderFits (suc (length s))) w (length s) (λ h. (omega arith, omega arith)) (λ _. tt)
-    go Elsewhere = tt
+    go (Some (w, f)) = by_leb (HeaderFits (suc (length s))) w (length s) (λ h. (omega arith, omega arith)) (λ _. tt)
+    go None = tt
 
-abbrev pub count_of : Header → Natural
-count_of (IsHeader n e) = IsNatural n e
-count_of OtherHeader = NoNatural
+abbrev pub count_of : Header → Option (ℕ × ℕ)
+count_of (Some (n, e)) = Some (n, e)
+count_of None = None
 
 pub count_at : (l : Bytes) (at : ℕ) (r : Header) → r ≡ shift_header at (header array_by (drop at l)) → count_of r ≡ natural_by l (count (drop at l))
 unfolding count count_from
 count_at l at r e = rw e (go (header array_by (drop at l)) (header-fits array_by (drop at l)))
   where
     go : (x : Header) → HeaderFits (length (drop at l)) x → count_of (shift_header at x) ≡ natural_by l (count_from x (drop at l))
-    go (IsHeader n k) h = ap (IsNatural n) (ends l at k h.0 h.1)
-    go OtherHeader h = refl
+    go (Some (n, k)) h = ap (λ a. Some (n, a)) (ends l at k h.0 h.1)
+    go None h = refl
 
 -- ---- a string, by its header and by whether its bytes have all come
 
-abbrev pub string_of : Bytes → Header → Span
-string_of l (IsHeader n e) = pick (leb n (length l - e)) (IsSpan e (e + n)) NoSpan
-string_of l OtherHeader = NoSpan
+abbrev pub string_of : Bytes → Header → Option (ℕ × ℕ)
+string_of l (Some (n, e)) = pick (leb n (length l - e)) (Some (e, e + n)) None
+string_of l None = None
 
 module _ (l : Bytes) (at : ℕ) {r : Header} (q : r ≡ shift_header at (header string_by (drop at l))) where
   -- its header lies within the bytes
-  pub string-start : {n e : ℕ} → r ≡ IsHeader n e → e ≤ length l
+  pub string-start : {n e : ℕ} → r ≡ Some (n, e) → e ≤ length l
   string-start {n} {e} i = go (header string_by (drop at l)) (header-fits string_by (drop at l)) q
     where
       go : (x : Header) → HeaderFits (length (drop at l)) x → r ≡ shift_header at x → e ≤ length l
-      go (IsHeader m k) f h = let j : e ≡ at + k = cc in let o = simp length-drop at f.1 in omega (arith, f.0)
-      go OtherHeader f h = absurd (let z : ◌≡◌ {A = ℕ} 0 1 = cc in omega arith)
+      go (Some (m, k)) f h = let j : e ≡ at + k = cc in let o = simp length-drop at f.1 in omega (arith, f.0)
+      go None f h = absurd (let z : ◌≡◌ {A = ℕ} 0 1 = cc in omega arith)
 
   pub string-at : string_of l r ≡ span_by l (string (drop at l))
   unfolding string string_from
   string-at = rw q (go (header string_by (drop at l)) (header-fits string_by (drop at l)))
     where
       go : (x : Header) → HeaderFits (length (drop at l)) x → string_of l (shift_header at x) ≡ span_by l (string_from x (drop at l))
-      go (IsHeader n k) f =
+      go (Some (n, k)) f =
           let o = simp length-drop at f.1 in
           let h = f.0 in
           ⊎_elim
@@ -159,29 +153,29 @@ module _ (l : Bytes) (at : ℕ) {r : Header} (q : r ≡ shift_header at (header 
           let t : length (drop at l) < k + n = simp length-drop (omega arith) in
           rw (lt-leb n (length l - (at + k)) i, lt-leb (k + n) (length (drop at l)) t))
           (either n (length l - (at + k)))
-      go OtherHeader f = refl
+      go None f = refl
 
 -- ---- a mark
 
-pub mark-cut : (l : Bytes) (at : ℕ) → length l < at + 2 → NoNatural ≡ natural_by l (mark (drop at l))
+pub mark-cut : (l : Bytes) (at : ℕ) → length l < at + 2 → None ≡ natural_by l (mark (drop at l))
 unfolding mark
 mark-cut l at h = go (drop at l) (rw length-drop (omega arith))
   where
-    go : (s : Bytes) → length s < 2 → NoNatural ≡ natural_by l (mark s)
+    go : (s : Bytes) → length s < 2 → None ≡ natural_by l (mark s)
     go [] h = refl
     go (a ∷ []) h = refl
     go (a ∷ c ∷ s) h = absurd (omega arith)
 
-pub mark_other : (l : Bytes) (at : ℕ) → at + 2 ≤ length l → (get_or l at 0 ≡ 0xa1 → ⊥) → NoNatural ≡ natural_by l (mark (drop at l))
+pub mark_other : (l : Bytes) (at : ℕ) → at + 2 ≤ length l → (get_or l at 0 ≡ 0xa1 → ⊥) → None ≡ natural_by l (mark (drop at l))
 unfolding mark
 mark_other l at h k = rw (drop-cons l at 0 (omega arith), drop-cons l (suc at) 0 (omega arith), ne_eqb (get_or l at 0) 0xa1 k)
 
-pub mark-is : (l : Bytes) (at : ℕ) → at + 2 ≤ length l → get_or l at 0 ≡ 0xa1 → IsNatural (get_or l (at + 1) 0) (at + 2) ≡ natural_by l (mark (drop at l))
+pub mark-is : (l : Bytes) (at : ℕ) → at + 2 ≤ length l → get_or l at 0 ≡ 0xa1 → Some (get_or l (at + 1) 0, at + 2) ≡ natural_by l (mark (drop at l))
 unfolding mark
 mark-is l at h k =
     let i : at + 1 ≡ suc at = omega arith in
     let j : at + 2 ≡ length l - length (drop (suc (suc at)) l) = rw length-drop (omega arith) in
-    rw (i, drop-cons l at 0 (omega arith), drop-cons l (suc at) 0 (omega arith), eq-eqb (get_or l at 0) 0xa1 k) (ap (IsNatural (get_or l (suc at) 0)) j)
+    rw (i, drop-cons l at 0 (omega arith), drop-cons l (suc at) 0 (omega arith), eq-eqb (get_or l at 0) 0xa1 k) (ap ((λ a. Some ((get_or l (suc at) 0), a))) j)
 
 -- ---- bytes from a place up to another, held to the end
 

@@ -1,14 +1,8 @@
 -- Inner: what the code reads an operation from, as what the definitions get.
-use Rattle.std.specs.Prelude.{ℕ, ◌-◌, length, take, drop}
+use Rattle.std.specs.Prelude.{ℕ, ◌-◌, length, take, drop, Some, None, Option}
 use Rattle.msgpack_first_bytes.specs.Bytes.{Bytes}
 use Rattle.msgpack_scalars.specs.declared.Int.{Int}
 use Rattle.tuples.specs.Decoding.{Got, fails, gets}
-use Rattle.update_parts.specs.declared.Signed.{Signed}
-use Rattle.update_parts.specs.declared.Signed.TheVariants.{Is as IsSigned, Bad as NoSigned}
-use Rattle.update_parts.specs.declared.Natural.{Natural}
-use Rattle.update_parts.specs.declared.Natural.TheVariants.{Is as IsNatural, Bad as NoNatural}
-use Rattle.update_parts.specs.declared.Span.{Span}
-use Rattle.update_parts.specs.declared.Span.TheVariants.{Is as IsSpan, Bad as NoSpan}
 
 -- the bytes from a up to e
 abbrev pub part : ℕ → ℕ → Bytes → Bytes
@@ -21,12 +15,12 @@ abbrev pub found : {A R : Type 0} → (A → ℕ → R) → R → Bytes → Got 
 found is bad l fails = bad
 found is bad l (gets a s) = is a (length l - length s)
 
-abbrev pub signed_by : Bytes → Got Int → Signed
-signed_by = found IsSigned NoSigned
+abbrev pub signed_by : Bytes → Got Int → Option (Int × ℕ)
+signed_by = found (λ a. Some (None, a))
 
-abbrev pub natural_by : Bytes → Got ℕ → Natural
-natural_by = found IsNatural NoNatural
+abbrev pub natural_by : Bytes → Got ℕ → Option (ℕ × ℕ)
+natural_by = found (λ a. Some (None, a))
 
 -- bytes begin as far before that place as they are long
-abbrev pub span_by : Bytes → Got Bytes → Span
-span_by = found (λ b e. IsSpan (e - length b) e) NoSpan
+abbrev pub span_by : Bytes → Got Bytes → Option (ℕ × ℕ)
+span_by = found (λ b e. Some (e - length b, e)) None

@@ -5,85 +5,63 @@ ghost use Rattle.std.specs.Prelude.{◌≡◌, min, drop};
 ghost use Rattle.tuples.specs.Decoding.{any_value, string, count, mark};
 ghost use Rattle.update_parts.specs.Part.{part, natural_by, span_by};
 
-use msgpack_scalars::{Header, Int, Opening};
-use msgpack_values::Read;
-
-// An integer and the place after it.
-#[derive(Clone, Copy)]
-pub enum Signed {
-    Is(Int, usize),
-    Bad,
-}
-
-// A number from 0 up and the place after it.
-#[derive(Clone, Copy)]
-pub enum Natural {
-    Is(u64, usize),
-    Bad,
-}
-
-// Bytes, from a start to an end.
-#[derive(Clone, Copy)]
-pub enum Span {
-    Is(usize, usize),
-    Bad,
-}
+use msgpack_scalars::Opening;
 
 // The value at `at`, as deep as a field may be.
-pub fn any_value(s: &[u8], at: usize) -> Span
+pub fn any_value(s: &[u8], at: usize) -> Option<(usize, usize)>
     ensures { result ≡ span_by s.now (any_value (drop at s.now)) }
 {
     match msgpack_values::read_value(s, at, tuples::FIELD_DEPTH) {
-        Read::Whole(end) => Span::Is(at, end),
-        Read::Broken(_) => Span::Bad,
+        Ok(end) => Some((at, end)),
+        Err(_) => None,
     }
 }
 
 // The bytes of the string whose header stands at `at`.
-pub fn string_at(s: &[u8], at: usize) -> Span
+pub fn string_at(s: &[u8], at: usize) -> Option<(usize, usize)>
     ensures { result ≡ span_by s.now (string (drop at s.now)) }
 {
-    let Header::Is(n, start) = msgpack_scalars::header_at(s, at, Opening::String) else {
-        return Span::Bad;
+    let Some((n, start)) = msgpack_scalars::header_at(s, at, Opening::String) else {
+        return None;
     };
     if s.len() - start < n {
-        return Span::Bad;
+        return None;
     }
-    Span::Is(start, start + n)
+    Some((start, start + n))
 }
 
 // The count of the array whose header stands at `at`, and the place after the header. A short header,
 // with no length bytes, is told by its entry, so that the compiler has no call to make for it.
-pub fn count_at(s: &[u8], at: usize) -> Natural
+pub fn count_at(s: &[u8], at: usize) -> Option<(u64, usize)>
     ensures { result ≡ natural_by s.now (count (drop at s.now)) }
 {
     if s.len() <= at {
-        return Natural::Bad;
+        return None;
     }
     let e = msgpack_first_bytes::entry(s[at]);
     if e >> 8 == 9 {
-        return Natural::Is((e % 256) as u64, at + 1);
+        return Some(((e % 256) as u64, at + 1));
     }
     match msgpack_scalars::header_at(s, at, Opening::Array) {
-        Header::Is(n, start) => Natural::Is(n as u64, start),
-        Header::Other => Natural::Bad,
+        Some((n, start)) => Some((n as u64, start)),
+        None => None,
     }
 }
 
 // A string of one character, in its shortest form.
-pub fn mark_at(s: &[u8], at: usize) -> Natural
+pub fn mark_at(s: &[u8], at: usize) -> Option<(u64, usize)>
     ensures { result ≡ natural_by s.now (mark (drop at s.now)) }
 {
     if s.len() < 2 {
-        return Natural::Bad;
+        return None;
     }
     if s.len() - 2 < at {
-        return Natural::Bad;
+        return None;
     }
     if s[at] != 0xa1 {
-        return Natural::Bad;
+        return None;
     }
-    Natural::Is(s[at + 1] as u64, at + 2)
+    Some((s[at + 1] as u64, at + 2))
 }
 
 fn least(a: usize, b: usize) -> usize

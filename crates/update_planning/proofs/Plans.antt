@@ -1,4 +1,5 @@
 -- What is planned is the definition's edit of the fields that are held. Assumes nothing.
+use Rattle.std.specs.Prelude.{Some, Ok, Err}
 use mathlib.Core.Path.{◌≡◌, refl, sym, ap, ◌∙◌}
 use mathlib.Core.Bool.{Bool, true, false, ◌&&◌}
 use mathlib.Core.List.{[], ◌∷◌, ◌++◌}
@@ -28,8 +29,7 @@ use Rattle.tuples.specs.Edit.{Edit, refuse, put, add, cut, asℤ, ranged, splice
 use Rattle.tuples.specs.declared.Refusal.{Refusal, TheVariants.NoField, TheVariants.TooLarge}
 use Rattle.tuples.proofs.Legal.{plain-length, field-length}
 use Rattle.update_parts.specs.Part.{part}
-use Rattle.update_numbers.specs.FieldNumber.{field_by}
-use Rattle.update_numbers.specs.declared.Field.{Field, TheVariants.At}
+use Rattle.update_numbers.specs.FieldNumber.{field_by, Field}
 use Rattle.update_operations.specs.Found.{change_in, action_in}
 use Rattle.update_operations.specs.Found as Found
 use Rattle.update_operations.specs.declared.Bitwise.TheVariants.{And, Xor, Or}
@@ -41,9 +41,9 @@ use Rattle.update_places.specs.Place.{in_list, in_work, place_of, length_of, byt
 use Rattle.update_places.proofs.Places.{place-small, start-place, length-place}
 use Rattle.update_places.proofs.Runs.{from_list, from-work}
 use Rattle.update_altering.specs.Altering.{changed, altered_by, work_by}
-use Rattle.update_altering.specs.declared.Altered.TheVariants.{Is, Full as NoWork}
-use Rattle.update_planning.specs.Plan.{brought, assigned_by, inserted_by, removed_by, changed_by, planned_at, work_at, planned, work_after}
-use Rattle.update_planning.specs.declared.Planned.{Planned, TheVariants.Refuse, TheVariants.Full, TheVariants.Put, TheVariants.Add, TheVariants.Cut}
+use Rattle.update_planning.specs.Plan.{brought, assigned_by, inserted_by, removed_by, changed_by, planned_at, work_at, planned, work_after, Planned}
+use Rattle.update_altering.specs.declared.Obstacle.TheVariants.{Full, Refused}
+use Rattle.update_planning.specs.declared.Plan.TheVariants.{Add, Cut, Put}
 
 -- ---- what a plan says of the definition's edit of the fields fs; w is the work array, of which u bytes are in use, and v the one that the plan leaves
 
@@ -79,11 +79,11 @@ pub record Fills (w v : Bytes) (u : ℕ) (fs : Fields) (ed : Edit) : Type 0 wher
   pub same : v ≡ w
 
 abbrev pub Means : Bytes → Bytes → Bytes → Bytes → ℕ → Fields → Planned → Edit → Type 0
-Means t l w v u fs (Refuse k) ed = perform ed fs ≡ stop k
-Means t l w v u fs Full ed = Fills w v u fs ed
-Means t l w v u fs (Put f q used) ed = Puts t l v u fs f q used ed
-Means t l w v u fs (Add f q) ed = Adds t l v u fs f q ed
-Means t l w v u fs (Cut f m) ed = Cuts fs f m ed
+Means t l w v u fs (Err (Refused k)) ed = perform ed fs ≡ stop k
+Means t l w v u fs (Err Full) ed = Fills w v u fs ed
+Means t l w v u fs (Ok (Put f q used)) ed = Puts t l v u fs f q used ed
+Means t l w v u fs (Ok (Add f q)) ed = Adds t l v u fs f q ed
+Means t l w v u fs (Ok (Cut f m)) ed = Cuts fs f m ed
 
 pub record Planning (t l w v : Bytes) (u : ℕ) (fs : Fields) (p : Planned) (ed : Edit) : Type 0 where
   pub means : Means t l w v u fs p ed
@@ -199,13 +199,13 @@ module _ (t l w : Bytes) (u : ℕ) (fs : Fields) (lim : length l ≤ max_list) (
           record { edit = ap (add f) (sym in_list_lem); among = g; small = place-small (in_list + a) (e - a); long = ap length in_list_lem ∙ part-long ∙ sym q; short = omega arith }
 
     module _ (f : ℕ) where
-      brought-put : f < length fs → Means t l w w u fs (brought (λ p. Put f p u) a e) (put f (part a e l))
+      brought-put : f < length fs → Means t l w w u fs (brought (λ p. Ok (Put f p u)) a e) (put f (part a e l))
       unfolding perform
       brought-put g =
           by_leb (λ r. Means t l w w u fs r (put f (part a e l))) (e - a) max_tuple (λ s. put_means s f g)
           (λ s. too_long fs f 1 (part a e l) (let i = part-long in omega arith))
 
-      brought-add : f ≤ length fs → Means t l w w u fs (brought (Add f) a e) (add f (part a e l))
+      brought-add : f ≤ length fs → Means t l w w u fs (brought (λ a. Ok (Add f a)) a e) (add f (part a e l))
       unfolding perform
       brought-add g =
           by_leb (λ r. Means t l w w u fs r (add f (part a e l))) (e - a) max_tuple (λ s. add_means s f g)
@@ -260,7 +260,7 @@ module _ (t l w : Bytes) (u : ℕ) (fs : Fields) (lim : length l ≤ max_list) (
             take-length,
           )
 
-      written : u + length b ≤ length w → Planning t l w (Writing.put u b w) u fs (Put f behind (u + length b)) (put f b)
+      written : u + length b ≤ length w → Planning t l w (Writing.put u b w) u fs (Ok (Put f behind (u + length b))) (put f b)
       written h =
           let r = wrote w u b (refl, refl) h in
           let i = behind-is (Writing.put u b w) (rw r.end at (through r)) in
@@ -289,7 +289,7 @@ module _ (t l w : Bytes) (u : ℕ) (fs : Fields) (lim : length l ≤ max_list) (
     by_edit g (cut j m) ed q = absurd q
     by_edit g (put j b) ed q = rw q (⊎_elim short long (either (length b) max_tuple))
       where
-        room_or_not : length b ≤ max_tuple → Planning t l w (Writing.put u b w) u fs (changed_by f u (pick (leb (u + length b) (length w)) (Is (u + length b)) NoWork)) (put f b)
+        room_or_not : length b ≤ max_tuple → Planning t l w (Writing.put u b w) u fs (changed_by f u (pick (leb (u + length b) (length w)) (Ok (u + length b)) (Err Full))) (put f b)
         room_or_not s =
             ⊎_elim (λ (h : u + length b ≤ length w). rw (le-leb _ _ h) (written g b s h))
             (λ (h : length w < u + length b). rw (lt-leb _ _ h, ← (refused w u b h).1)
@@ -324,7 +324,7 @@ module _ (t l w : Bytes) (u : ℕ) (fs : Fields) (lim : length l ≤ max_list) (
 
   -- THE LAW of a plan: what is planned is the definition's own edit of the fields
   pub plan_means : {base at e : ℕ} {fd : Field} {x : Action} (i : IsOperation base l at fd x e) (old : ℕ)
-      → ((f : ℕ) → fd ≡ At f → f < length fs → bytes_at t l (take u w) old ≡ get_or fs f [])
+      → ((f : ℕ) → fd ≡ Some f → f < length fs → bytes_at t l (take u w) old ≡ get_or fs f [])
       → {p : Planned} {v : Bytes} → p ≡ planned t l w u old (length fs) fd x e → v ≡ work_after t l w u old (length fs) fd x e → Planning t l w v u fs p (plan_of i.o fs)
   unfolding plan_of field_at
   plan_means {base} {at} {e} {fd} {x} i old o {p} {v} q r = rw (q, r, ← i.action, i.field) (go i.o.number (λ f y. o f (i.field ∙ y)))
@@ -340,7 +340,7 @@ module _ (t l w : Bytes) (u : ℕ) (fs : Fields) (lim : length l ≤ max_list) (
       starts (remove m) h = tt
       starts (Law.splice y z b) h = tt
 
-      go : (z : Int) → ((f : ℕ) → field_by z ≡ At f → f < length fs → bytes_at t l (take u w) old ≡ get_or fs f [])
+      go : (z : Int) → ((f : ℕ) → field_by z ≡ Some f → f < length fs → bytes_at t l (take u w) old ≡ get_or fs f [])
           → Planning t l w (work_after t l w u old (length fs) (field_by z) x e) u fs (planned t l w u old (length fs) (field_by z) x e) (field_at z (λ f. edit_at (action_in l x e) f fs))
       go (FromZero f) y = at_means f x e old (rw i.placed (starts i.o.action i.within)) i.end (y f refl)
       go (BelowZero m) y = still (refused_so fs NoField refl)

@@ -7,7 +7,7 @@ ghost use Rattle.update_operations.specs.declared.Action.TheVariants.{Alter};
 ghost use Rattle.update_planning.specs.Plan.{assigned_by, inserted_by, removed_by, planned_at, work_at, planned, work_after};
 
 use tuples::{MAX_TUPLE, Refusal};
-use update_altering::Altered;
+use update_altering::Obstacle;
 use update_numbers::Field;
 use update_operations::{Action, Change};
 use update_places::{IN_LIST, IN_WORK};
@@ -15,14 +15,16 @@ use update_places::{IN_LIST, IN_WORK};
 // What an operation does to the fields that it meets: it is refused; the work array has no room for what it
 // makes; a place comes for field f, with so many bytes of the work array in use then; one comes before
 // field f; so many fields go from f on.
+// A place comes for field f, with so many bytes of the work array in use then; one comes before field f; so
+// many fields go from f on.
 #[derive(Clone, Copy)]
-pub enum Planned {
-    Refuse(Refusal),
-    Full,
+pub enum Plan {
     Put(usize, u32, usize),
     Add(usize, u32),
     Cut(usize, usize),
 }
+
+pub type Planned = Result<Plan, Obstacle>;
 
 // How far `end` is past `start`.
 fn span(start: usize, end: usize) -> usize
@@ -46,16 +48,16 @@ fn assigned(f: usize, n: usize, start: usize, end: usize, used: usize) -> Planne
     ensures { result ≡ assigned_by f n start end used }
 {
     if n < f {
-        return Planned::Refuse(Refusal::NoField);
+        return Err(Obstacle::Refused(Refusal::NoField));
     }
     let long = span(start, end);
     if MAX_TUPLE < long {
-        return Planned::Refuse(Refusal::TooLarge);
+        return Err(Obstacle::Refused(Refusal::TooLarge));
     }
     if f < n {
-        return Planned::Put(f, in_list(start, long), used);
+        return Ok(Plan::Put(f, in_list(start, long), used));
     }
-    Planned::Add(f, in_list(start, long))
+    Ok(Plan::Add(f, in_list(start, long)))
 }
 
 // `!`.
@@ -63,13 +65,13 @@ fn inserted(f: usize, n: usize, start: usize, end: usize) -> Planned
     ensures { result ≡ inserted_by f n start end }
 {
     if n < f {
-        return Planned::Refuse(Refusal::NoField);
+        return Err(Obstacle::Refused(Refusal::NoField));
     }
     let long = span(start, end);
     if MAX_TUPLE < long {
-        return Planned::Refuse(Refusal::TooLarge);
+        return Err(Obstacle::Refused(Refusal::TooLarge));
     }
-    Planned::Add(f, in_list(start, long))
+    Ok(Plan::Add(f, in_list(start, long)))
 }
 
 // `#`.
@@ -77,12 +79,12 @@ fn removed(f: usize, n: usize, m: u64) -> Planned
     ensures { result ≡ removed_by f n m }
 {
     if n <= f {
-        return Planned::Refuse(Refusal::NoField);
+        return Err(Obstacle::Refused(Refusal::NoField));
     }
     if m < (n - f) as u64 {
-        return Planned::Cut(f, m as usize);
+        return Ok(Plan::Cut(f, m as usize));
     }
-    Planned::Cut(f, n - f)
+    Ok(Plan::Cut(f, n - f))
 }
 
 // What alters a field whose place is `old`.
@@ -101,16 +103,12 @@ fn altered(
         × (work.new ≡ work_at tuple.now list.now work.old used old n f (Alter change) end) }
 {
     if n <= f {
-        return Planned::Refuse(Refusal::NoField);
+        return Err(Obstacle::Refused(Refusal::NoField));
     }
     match update_altering::alter(tuple, list, work, used, old, change, end) {
-        Altered::Refused(refusal) => Planned::Refuse(refusal),
-        Altered::Full => Planned::Full,
-        Altered::Is(to) => Planned::Put(
-            f,
-            update_places::place_of(IN_WORK + used % 0x2_0000, to - used),
-            to,
-        ),
+        Err(Obstacle::Refused(refusal)) => Err(Obstacle::Refused(refusal)),
+        Err(Obstacle::Full) => Err(Obstacle::Full),
+        Ok(to) => Ok(Plan::Put(f, update_places::place_of(IN_WORK + used % 0x2_0000, to - used), to)),
     }
 }
 
@@ -130,8 +128,8 @@ pub fn plan(
     ensures { (result ≡ planned tuple.now list.now work.old used old n field action end)
         × (work.new ≡ work_after tuple.now list.now work.old used old n field action end) }
 {
-    let Field::At(number) = field else {
-        return Planned::Refuse(Refusal::NoField);
+    let Some(number) = field else {
+        return Err(Obstacle::Refused(Refusal::NoField));
     };
     let f = number as usize;
     match action {

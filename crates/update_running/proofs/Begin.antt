@@ -1,4 +1,5 @@
 -- A tuple that is loaded is held, and a run begins. Assumes nothing.
+use Rattle.std.specs.Prelude.{Err}
 use mathlib.Core.Path.{◌≡◌, refl, sym, ap, ◌∙◌, subst}
 use mathlib.Core.Bool.{true}
 use mathlib.Core.List.{List, [], ◌∷◌, ◌++◌, map, append-nil, append_assoc}
@@ -23,25 +24,25 @@ use Rattle.update_table.specs.Table.{window}
 use Rattle.update_loading.specs.Loading.{entries, tabled}
 use Rattle.update_loading.proofs.Judged.{LoadedIs}
 use Rattle.update_running.specs.declared.Stage.{Stage}
-use Rattle.update_running.specs.declared.Ran.{Ran, TheVariants.Refused}
+use Rattle.update_running.specs.Carrying.{Ran, comes_to, rest_of, work_room, Begun, Carries}
 use Rattle.update_running.specs.Held.{fields_now, undo_in, in_word, Held}
-use Rattle.update_running.specs.Carrying.{comes_to, rest_of, work_room, Begun, Carries}
+use Rattle.update_running.specs.declared.Unfinished.TheVariants.{Refused}
 
 -- ---- refusals
 
 module _ (t l w : Bytes) (table back : List ℕ) (base n first start : ℕ) where
-  pub bad_tuple : fields_of t ≡ none → Carries (Refused BadTuple 0) (fields_of t) t l w table back base n first start
+  pub bad_tuple : fields_of t ≡ none → Carries (Err (Refused BadTuple 0)) (fields_of t) t l w table back base n first start
   unfolding comes_to
   bad_tuple e = (rw e, omega arith)
 
-  bad_list : {fs : Fields} → fields_of t ≡ some fs → rest_of base n first start l ≡ none → Carries (Refused BadList 0) (fields_of t) t l w table back base n first start
+  bad_list : {fs : Fields} → fields_of t ≡ some fs → rest_of base n first start l ≡ none → Carries (Err (Refused BadList 0)) (fields_of t) t l w table back base n first start
   unfolding comes_to
   bad_list e f = (rw (e, f), omega arith)
 
-  pub many_listed : {fs : Fields} → fields_of t ≡ some fs → max_operations < n → Carries (Refused BadList 0) (fields_of t) t l w table back base n first start
+  pub many_listed : {fs : Fields} → fields_of t ≡ some fs → max_operations < n → Carries (Err (Refused BadList 0)) (fields_of t) t l w table back base n first start
   many_listed e h = bad_list e (unfold rest_of in rw (lt-leb n max_operations h))
 
-  pub long-list : {fs : Fields} → fields_of t ≡ some fs → n ≤ max_operations → max_list < length l → Carries (Refused BadList 0) (fields_of t) t l w table back base n first start
+  pub long-list : {fs : Fields} → fields_of t ≡ some fs → n ≤ max_operations → max_list < length l → Carries (Err (Refused BadList 0)) (fields_of t) t l w table back base n first start
   long-list e h k = bad_list e (unfold rest_of in rw (le-leb n max_operations h, lt-leb (length l) max_list k))
 
 -- ---- the places of the fields

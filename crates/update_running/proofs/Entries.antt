@@ -1,4 +1,5 @@
 -- Entries laid and summed one by one; what performing a plan comes to. Assumes nothing.
+use Rattle.std.specs.Prelude.{Ok, Err}
 use mathlib.Core.Path.{◌≡◌, sym, ◌∙◌}
 use mathlib.Core.Bool.{Bool, true, false}
 use mathlib.Core.List.{List, [], ◌∷◌, map}
@@ -16,15 +17,14 @@ use Rattle.update_places.specs.Place.{length_of, sum}
 use Rattle.update_places.proofs.Kept.{drop-take}
 use Rattle.update_table.specs.Table.{window, added, head_added, removed, head_removed}
 use Rattle.tuples.specs.declared.Refusal.TheVariants.{BadList, TooLarge}
-use Rattle.update_planning.specs.declared.Planned.{Planned}
-use Rattle.update_planning.specs.declared.Planned.TheVariants.{Put, Add, Cut}
-use Rattle.update_running.specs.declared.Course.{Course}
-use Rattle.update_running.specs.declared.Ran.TheVariants.{Refused}
+use Rattle.update_planning.specs.Plan.{Planned}
+use Rattle.update_running.specs.Course.{Course}
 use Rattle.update_running.specs.declared.Stage.{Stage}
-use Rattle.update_running.specs.declared.Performed.{Performed}
-use Rattle.update_running.specs.declared.Performed.TheVariants.{Stop, Next}
-use Rattle.update_running.specs.Steps.{entry_of, laid_from, fitting, gone_place, gone_places, gone_bytes, bytes_put, put_stage, add_stage, cut_stage, performed, table_after, back_after}
+use Rattle.update_running.specs.Steps.{Performed, entry_of, laid_from, fitting, gone_place, gone_places, gone_bytes, bytes_put, put_stage, add_stage, cut_stage, performed, table_after, back_after}
 use Rattle.update_running.specs.Carrying.{finishes_by, finishing}
+use Rattle.update_altering.specs.declared.Obstacle.TheVariants.{Refused}
+use Rattle.update_planning.specs.declared.Plan.TheVariants.{Add, Cut, Put}
+use Rattle.update_running.specs.declared.Unfinished.TheVariants.{Refused as RefusedAt}
 
 -- ---- entries one by one
 
@@ -116,7 +116,7 @@ form_short k f e = rw e (unsigned-long f).1
 
 -- ---- the end of a list
 
-pub not_finished : (c : Course) (at : ℕ) (l : Bytes) → at < length l → Refused BadList 0 ≡ finishing c at l
+pub not_finished : (c : Course) (at : ℕ) (l : Bytes) → at < length l → Err (RefusedAt BadList 0) ≡ finishing c at l
 unfolding finishing
 not_finished c at l h = simp (lt-ltb at (length l) h)
 
@@ -131,15 +131,15 @@ Does x z table back r t b = (r ≡ performed x z table) × (t ≡ table_after x 
 
 module _ (z : Stage) (table back : List ℕ) (f : ℕ) where
   module _ (p u k n : ℕ) (r : Bool) (a : k ≡ length_of (gone_place f z table)) (b : n ≡ length_of p) (q : r ≡ fitting z.fields (z.bytes - k + n)) where
-    pub put_refused : r ≡ false → Does (Put f p u) z table back (Stop TooLarge) table back
+    pub put_refused : r ≡ false → Does (Ok (Put f p u)) z table back (Err (Refused TooLarge)) table back
     put_refused t =
         let e : fitting z.fields (bytes_put f p z table) ≡ false = rw (← a, ← b) (sym q ∙ t) in
         (simp e, simp e, simp e)
 
     pub put-done : r ≡ true → (h low tail x : ℕ) (back' : List ℕ) → h ≡ length (unsigned_form f) → low ≡ min z.low f → tail ≡ min z.tail (z.fields - (f + 1))
         → x ≡ entry_of 0x3d f (gone_place f z table) → back' ≡ set back z.laid x
-        → Does (Put f p u) z table back
-        (Next
+        → Does (Ok (Put f p u)) z table back
+        (Ok
         record { head = z.head; fields = z.fields; bytes = z.bytes - k + n; used = u; laid = z.laid + 1; back = z.back + (3 + h + k); low = low; tail = tail })
         (set table (z.head + f) p) back'
     unfolding put_stage
@@ -148,7 +148,7 @@ module _ (z : Stage) (table back : List ℕ) (f : ℕ) where
         (rw (a, b, i, j, l) (simp e), simp e, rw (o, m) (simp e))
 
   module _ (p n : ℕ) (r : Bool) (b : n ≡ length_of p) (q : r ≡ fitting (z.fields + 1) (z.bytes + n)) where
-    pub add-refused : r ≡ false → Does (Add f p) z table back (Stop TooLarge) table back
+    pub add-refused : r ≡ false → Does (Ok (Add f p)) z table back (Err (Refused TooLarge)) table back
     add-refused t =
         let e : fitting (z.fields + 1) (z.bytes + length_of p) ≡ false = rw (← b) (sym q ∙ t) in
         (simp e, simp e, simp e)
@@ -156,8 +156,8 @@ module _ (z : Stage) (table back : List ℕ) (f : ℕ) where
     pub add_done : r ≡ true → (head h low tail x : ℕ) (table' back' : List ℕ) → h ≡ length (unsigned_form f) → low ≡ min z.low f → tail ≡ min z.tail (z.fields - f)
         → x ≡ entry_of 0x23 f 0 → back' ≡ set back z.laid x
         → (head ≡ head_added (length table) z.head z.fields f) × (table' ≡ added z.head z.fields f p table)
-        → Does (Add f p) z table back
-        (Next
+        → Does (Ok (Add f p)) z table back
+        (Ok
         record { head = head; fields = z.fields + 1; bytes = z.bytes + n; used = z.used; laid = z.laid + 1; back = z.back + (3 + h + 1); low = low; tail = tail })
         table' back'
     unfolding add_stage
@@ -170,8 +170,8 @@ module _ (z : Stage) (table back : List ℕ) (f : ℕ) where
       → low ≡ min z.low f → tail ≡ min z.tail (z.fields - (f + m))
       → (head ≡ head_removed (length table) z.head z.fields f m) × (table' ≡ removed z.head z.fields f m table)
       → back' ≡ laid_from z.laid (map (entry_of 0x21 f) (gone_places f m z table)) back
-      → Does (Cut f m) z table back
-      (Next
+      → Does (Ok (Cut f m)) z table back
+      (Ok
       record { head = head; fields = z.fields - m; bytes = z.bytes - k; used = z.used; laid = z.laid + m; back = z.back + w; low = low; tail = tail })
       table' back'
   unfolding cut_stage

@@ -1,4 +1,5 @@
 -- A plan that is performed is the definition's step, and what is held goes on. Assumes nothing.
+use Rattle.std.specs.Prelude.{Ok, Err}
 use mathlib.Core.Path.{◌≡◌, refl, sym, ap, ◌∙◌}
 use mathlib.Core.Bool.{Bool, true, false}
 use mathlib.Core.List.{List, [], ◌∷◌, ◌++◌, map}
@@ -25,15 +26,16 @@ use Rattle.update_places.proofs.Kept.{drop-take, kept-one-more, kept_more}
 use Rattle.update_table.specs.Table.{window, added, head_added, removed}
 use Rattle.update_table.proofs.Windows.{length-window, window-set, get_d_window, length-added, head-added, window-added, length_removed, head-removed, window-removed}
 use Rattle.update_table.proofs.Edits.{Opens, Closes, is_open, is_closed}
-use Rattle.update_planning.specs.declared.Planned.{Planned, TheVariants.Refuse, TheVariants.Full, TheVariants.Put, TheVariants.Add, TheVariants.Cut}
+use Rattle.update_planning.specs.Plan.{Planned}
 use Rattle.update_planning.proofs.Plans.{Puts, Adds, Cuts, Planning}
 use Rattle.update_running.specs.declared.Stage.{Stage}
-use Rattle.update_running.specs.declared.Performed.{Performed, TheVariants.Stop, TheVariants.Full as NoWork, TheVariants.Next}
-use Rattle.update_running.specs.Steps.{entry_of, laid_from, fitting, head_length, gone_place, bytes_put, put_stage, add_stage, gone_places, gone_bytes, cut_stage, performed, table_after, back_after}
+use Rattle.update_running.specs.Steps.{Performed, entry_of, laid_from, fitting, head_length, gone_place, bytes_put, put_stage, add_stage, gone_places, gone_bytes, cut_stage, performed, table_after, back_after}
 use Rattle.update_running.specs.Held.{places_now, fields_now, undo_in, in_word, Held}
 use Rattle.update_running.proofs.Sums.{length-map, length-spliced}
 use Rattle.update_running.proofs.Holding.{edited_bytes, Edits, fields-next, held_next}
 use Rattle.update_running.proofs.Undoing.{entry_place_lem, entry-is, entry_removes, place-nothing, operation-length, in_word_lem, length-laid, take-laid, restoring, restoring_whole, restoring_bytes, restored-length}
+use Rattle.update_altering.specs.declared.Obstacle.TheVariants.{Full, Refused}
+use Rattle.update_planning.specs.declared.Plan.TheVariants.{Add, Cut, Put}
 
 -- ---- 16, by numbers
 
@@ -100,9 +102,9 @@ module _ {t l w : Bytes} {table back : List ℕ} {left : ℕ} {z : Stage} {us : 
 
 -- what a plan does to the stage: refused, with the definition's step; or on, where what is held goes on
 abbrev pub Performs : Bytes → Bytes → Bytes → List ℕ → List ℕ → ℕ → List Bytes → Fields → Edit → Performed → Type 0
-Performs t l v table back left us gs ed (Stop k) = perform ed gs ≡ stop k
-Performs t l v table back left us gs ed NoWork = Unit {0}
-Performs t l v table back left us gs ed (Next z) = (perform ed gs ≡ next (fields_now t l v table z)) × Held t l v table back left z (inverse ed gs ++ us)
+Performs t l v table back left us gs ed (Err (Refused k)) = perform ed gs ≡ stop k
+Performs t l v table back left us gs ed (Err Full) = Unit {0}
+Performs t l v table back left us gs ed (Ok z) = (perform ed gs ≡ next (fields_now t l v table z)) × Held t l v table back left z (inverse ed gs ++ us)
 
 pub one_field : (fs : Fields) (f : ℕ) → f < length fs → sum (map length (take 1 (drop f fs))) ≡ length (get_or fs f [])
 unfolding sum
@@ -400,26 +402,26 @@ module _ {t l w : Bytes} {table back : List ℕ} {left : ℕ} {z : Stage} {us : 
   pub performs : (v : Bytes) (ed : Edit) (p : Planned) → Planning t l w v z.used gs p ed
       → Performs t l v (table_after p z table) (back_after p z table back) left us gs ed (performed p z table)
   unfolding perform inverse fields_in put_stage add_stage cut_stage
-  performs v ed (Refuse k) P = P.means
-  performs v ed Full P = tt
-  performs v ed (Put f q u) P = go (fitting z.fields (bytes_put f q z table)) refl
+  performs v ed (Err (Refused k)) P = P.means
+  performs v ed (Err Full) P = tt
+  performs v ed (Ok (Put f q u)) P = go (fitting z.fields (bytes_put f q z table)) refl
     where
       go : (b : Bool) → fitting z.fields (bytes_put f q z table) ≡ b
           → Performs t l v (pick b (set table (z.head + f) q) table) (pick b (set back z.laid (entry_of 0x3d f (gone_place f z table))) back) left us gs ed
-          (pick b (Next (put_stage f q u z table)) (Stop TooLarge))
+          (pick b (Ok (put_stage f q u z table)) (Err (Refused TooLarge)))
       go true e =
           let E = put_edits v ed P.kept f q u P.means e in
           rw P.means.edit (next_fits _ (put-fits v ed P.kept f q u P.means ∙ e) ∙ ap next (sym (fields-next H E)), held_next H E)
       go false e = put-stops v ed P.kept f q u P.means e
-  performs v ed (Add f q) P = go (fitting (z.fields + 1) (z.bytes + length_of q)) refl
+  performs v ed (Ok (Add f q)) P = go (fitting (z.fields + 1) (z.bytes + length_of q)) refl
     where
       go : (b : Bool) → fitting (z.fields + 1) (z.bytes + length_of q) ≡ b
           → Performs t l v (pick b (added z.head z.fields f q table) table) (pick b (set back z.laid (entry_of 0x23 f 0)) back) left us gs ed
-          (pick b (Next (add_stage f q z table)) (Stop TooLarge))
+          (pick b (Ok (add_stage f q z table)) (Err (Refused TooLarge)))
       go true e =
           let E = add_edits v ed P.kept f q P.means P.long e in
           rw P.means.edit (next_fits _ (add-fits v ed P.kept f q P.means ∙ e) ∙ ap next (sym (fields-next H E)), held_next H E)
       go false e = add-stops v ed P.kept f q P.means e
-  performs v ed (Cut f m) P =
+  performs v ed (Ok (Cut f m)) P =
       let E = cut_edits v ed P.kept f m P.means P.long in
       rw P.means.edit (next_fits _ (cut_fits v ed P.kept f m P.means) ∙ ap next (sym (fields-next H E)), held_next H E)

@@ -1,18 +1,15 @@
 -- One operation in the course of a run, from what its parts ensure. Assumes nothing.
+use Rattle.std.specs.Prelude.{Ok}
 use mathlib.Core.Path.{◌≡◌, sym, ap, ◌∙◌}
 use mathlib.Core.List.{List}
 use Prim.Native.Nat.{ℕ}
 use Rattle.msgpack_first_bytes.specs.Bytes.{Bytes}
-use Rattle.update_numbers.specs.declared.Field.{Field}
+use Rattle.update_numbers.specs.FieldNumber.{Field}
 use Rattle.update_operations.specs.declared.Action.{Action}
-use Rattle.update_planning.specs.Plan.{planned, work_after}
-use Rattle.update_planning.specs.declared.Planned.{Planned}
+use Rattle.update_planning.specs.Plan.{planned, work_after, Planned}
 use Rattle.update_running.specs.declared.Stage.{Stage}
-use Rattle.update_running.specs.declared.Performed.{Performed}
-use Rattle.update_running.specs.declared.Course.{Course, TheVariants.Going}
-use Rattle.update_running.specs.declared.Stepped.{Stepped}
-use Rattle.update_running.specs.Steps.{old_of, performed, table_after, back_after}
-use Rattle.update_running.specs.Course.{plan_in, on_performed, stepped, work_step, table_step, back_step}
+use Rattle.update_running.specs.Steps.{Performed, old_of, performed, table_after, back_after}
+use Rattle.update_running.specs.Course.{Course, Stepped, plan_in, on_performed, stepped, work_step, table_step, back_step}
 use Rattle.update_running.proofs.Entries.{Does}
 
 -- what `step` ensures
@@ -28,7 +25,7 @@ module _ (t l w : Bytes) (table back : List ℕ) (fd : Field) (x : Action) (e i 
   -- by the plan of its action on the field's place, performed
   pub step_going : (z : Stage) (old : ℕ) (p : Planned) (w' : Bytes) (q : Performed) (table' back' : List ℕ) (d : Performed) → old ≡ old_of fd z.head z.fields table
       → (p ≡ planned t l w z.used old z.fields fd x e) × (w' ≡ work_after t l w z.used old z.fields fd x e) → Does p z table back q table' back' → q ≡ d
-      → Steps (Going z) t l w table back fd x e i (on_performed d z i) w' table' back'
+      → Steps (Ok z) t l w table back fd x e i (on_performed d z i) w' table' back'
   step_going z old p w' q table' back' d a b f g =
       let P : p ≡ plan_in t l w table fd x e z = b.0 ∙ ap (λ (o : ℕ). planned t l w z.used o z.fields fd x e) a in (
         ap (λ (y : Performed). on_performed y z i) (sym g ∙ f.0 ∙ ap (λ (y : Planned). performed y z table) P),

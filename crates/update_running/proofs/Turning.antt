@@ -1,4 +1,5 @@
 -- A turn of a run: what `step` leaves is the course of the run after the operation. Assumes nothing.
+use Rattle.std.specs.Prelude.{Some, Ok, Err}
 use mathlib.Core.Path.{◌≡◌, refl, sym, ap, ◌∙◌, subst}
 use mathlib.Core.Bool.{Bool, true, false}
 use mathlib.Core.Logic.{inr}
@@ -17,25 +18,22 @@ use Rattle.tuples.specs.Edit.{plan_of, plans, undo_of}
 use Rattle.tuples.specs.declared.Refusal.{TheVariants.TooLarge}
 use Rattle.tuples.proofs.Legal.{limited-next}
 use Rattle.update_places.specs.Place.{length_of, bytes_at, Sources, sum}
-use Rattle.update_numbers.specs.declared.Field.{Field, TheVariants.At}
+use Rattle.update_numbers.specs.FieldNumber.{Field}
 use Rattle.update_operations.specs.declared.Action.{Action}
 use Rattle.update_operations.proofs.Opening.{IsOperation}
-use Rattle.update_planning.specs.Plan.{planned, work_after}
-use Rattle.update_planning.specs.declared.Planned.{Planned, TheVariants.Refuse, TheVariants.Full as NoPlan, TheVariants.Put, TheVariants.Add, TheVariants.Cut}
+use Rattle.update_planning.specs.Plan.{planned, work_after, Planned}
 use Rattle.update_planning.proofs.Plans.{Planning, plan_means}
 use Rattle.update_running.specs.declared.Stage.{Stage}
-use Rattle.update_running.specs.declared.Performed.{Performed, TheVariants.Stop, TheVariants.Full as NoWork, TheVariants.Next as GoesOn}
-use Rattle.update_running.specs.declared.Course.{Course, TheVariants.Going, TheVariants.Stopped}
-use Rattle.update_running.specs.declared.Ran.{Ran}
-use Rattle.update_running.specs.declared.Stepped.{Stepped, TheVariants.Full, TheVariants.Next}
-use Rattle.update_running.specs.Steps.{old_of, fitting, bytes_put, put_stage, add_stage, performed, table_after, back_after, Sound}
+use Rattle.update_running.specs.Steps.{Performed, old_of, fitting, bytes_put, put_stage, add_stage, performed, table_after, back_after, Sound}
+use Rattle.update_running.specs.Course.{Course, Stepped, plan_in, on_performed, CourseSound}
+use Rattle.update_running.specs.Carrying.{Ran, rest_of, takes_back, work_room, Stalled, Begun, Carries, finishing}
 use Rattle.update_running.specs.Held.{places_now, fields_now, Held}
-use Rattle.update_running.specs.Course.{plan_in, on_performed, CourseSound}
-use Rattle.update_running.specs.Carrying.{rest_of, takes_back, work_room, Stalled, Begun, Carries, finishing}
 use Rattle.update_running.proofs.Sums.{length-joined}
 use Rattle.update_running.proofs.Performing.{fields-length, within, gone_bytes_lem, next_fits, Performs, performs}
 use Rattle.update_running.proofs.Stepping.{Steps}
 use Rattle.update_running.proofs.Turns.{later_back, Sofar, InCourse, course_passed, course_stops, course_goes, course_full, course_over, course_ends}
+use Rattle.update_altering.specs.declared.Obstacle.TheVariants.{Full, Refused}
+use Rattle.update_planning.specs.declared.Plan.TheVariants.{Add, Cut, Put}
 
 -- ---- what is held is sound
 
@@ -55,30 +53,30 @@ held-sound {t} {l} {w} {table} {back} {left} {z} H =
     }
 
 -- a plan that finds no room in the work array
-full_plan : (p : Planned) (z : Stage) (table : List ℕ) → performed p z table ≡ NoWork → p ≡ NoPlan
-full_plan (Refuse k) z table e = impossible (cc)
-full_plan NoPlan z table e = refl
-full_plan (Put f q u) z table e = go (put_stage f q u z table) (fitting z.fields (bytes_put f q z table)) e
+full_plan : (p : Planned) (z : Stage) (table : List ℕ) → performed p z table ≡ Err Full → p ≡ Err Full
+full_plan (Err (Refused k)) z table e = impossible (cc)
+full_plan (Err Full) z table e = refl
+full_plan (Ok (Put f q u)) z table e = go (put_stage f q u z table) (fitting z.fields (bytes_put f q z table)) e
   where
-    go : (y : Stage) (b : Bool) → pick b (GoesOn y) (Stop TooLarge) ≡ NoWork → Put f q u ≡ NoPlan
+    go : (y : Stage) (b : Bool) → pick b (Ok y) (Err (Refused TooLarge)) ≡ Err Full → Ok (Put f q u) ≡ Err Full
     go y true e = impossible (cc)
     go y false e = impossible (cc)
-full_plan (Add f q) z table e = go (add_stage f q z table) (fitting (z.fields + 1) (z.bytes + length_of q)) e
+full_plan (Ok (Add f q)) z table e = go (add_stage f q z table) (fitting (z.fields + 1) (z.bytes + length_of q)) e
   where
-    go : (y : Stage) (b : Bool) → pick b (GoesOn y) (Stop TooLarge) ≡ NoWork → Add f q ≡ NoPlan
+    go : (y : Stage) (b : Bool) → pick b (Ok y) (Err (Refused TooLarge)) ≡ Err Full → Ok (Add f q) ≡ Err Full
     go y true e = impossible (cc)
     go y false e = impossible (cc)
-full_plan (Cut f m) z table e = impossible (cc)
+full_plan (Ok (Cut f m)) z table e = impossible (cc)
 
 -- the fields at the start of a run
 abbrev pub fields_at : Bytes → Bytes → Bytes → List ℕ → Course → Fields
-fields_at t l w table (Going z) = fields_now t l w table z
-fields_at t l w table (Stopped k j) = []
+fields_at t l w table (Ok z) = fields_now t l w table z
+fields_at t l w table (Err (k, j)) = []
 
 module _ (base n first start : ℕ) (t₀ : Fields) (t l w : Bytes) (table back : List ℕ) (i at : ℕ) where
   pub course_sound : (c : Course) → InCourse base n first start t₀ t l w table back c i at → CourseSound c table
-  course_sound (Going z) s = held-sound s.held
-  course_sound (Stopped k j) s = tt
+  course_sound (Ok z) s = held-sound s.held
+  course_sound (Err (k, j)) s = tt
 
   module _ (few : n ≤ max_operations) (short : length l ≤ max_list) (h : i < n) (room : length w ≤ work_room) {fd : Field} {x : Action} {e : ℕ} (o : IsOperation base l at fd x e) where
     module _ (z : Stage) (s : Sofar base n first start t₀ t l w table back z i at) where
@@ -89,7 +87,7 @@ module _ (base n first start : ℕ) (t₀ : Fields) (t l w : Bytes) (table back 
           plan_means t l w z.used (fields_now t l w table z) short s.held.used room o (old_of fd z.head z.fields table) old
           (ap (λ (k : ℕ). planned t l w z.used (old_of fd z.head z.fields table) k fd x e) (sym f)) (ap (λ (k : ℕ). work_after t l w z.used (old_of fd z.head z.fields table) k fd x e) (sym f))
         where
-          old : (f : ℕ) → fd ≡ At f → f < length (fields_now t l w table z) → bytes_at t l (take z.used w) (old_of fd z.head z.fields table) ≡ get_or (fields_now t l w table z) f []
+          old : (f : ℕ) → fd ≡ Some f → f < length (fields_now t l w table z) → bytes_at t l (take z.used w) (old_of fd z.head z.fields table) ≡ get_or (fields_now t l w table z) f []
           old f q k =
               let j : f < z.fields = let a = fields-length s.held in omega arith in
               rw (q, lt-ltb f z.fields j) (gone_bytes_lem s.held f j)
@@ -107,35 +105,35 @@ module _ (base n first start : ℕ) (t₀ : Fields) (t l w : Bytes) (table back 
 
     -- the course after the operation
     pub turn_next : (c c' : Course) (r : Stepped) (v : Bytes) (table' back' : List ℕ) → InCourse base n first start t₀ t l w table back c i at
-        → Steps c t l w table back fd x e i r v table' back' → r ≡ Next c' → (InCourse base n first start t₀ t l v table' back' c' (i + 1) e) × (length v ≡ length w)
-    turn_next (Stopped k j) c' r v table' back' s m q =
-        let d : c' ≡ Stopped k j = let y = m.0 in cc in
+        → Steps c t l w table back fd x e i r v table' back' → r ≡ Ok c' → (InCourse base n first start t₀ t l v table' back' c' (i + 1) e) × (length v ≡ length w)
+    turn_next (Err (k, j)) c' r v table' back' s m q =
+        let d : c' ≡ Err (k, j) = let y = m.0 in cc in
         (subst (λ (y : Course). InCourse base n first start t₀ t l v table' back' y (i + 1) e) (sym d) (course_passed base n first start t₀ t l w table back i at few short h o.o e o.got s), ap length m.1)
-    turn_next (Going z) c' r v table' back' s m q =
+    turn_next (Ok z) c' r v table' back' s m q =
         (go (performed (plan_in t l w table fd x e z) z table) refl (sym q ∙ m.0), ap length m.1 ∙ (planning z s).long)
       where
-        go : (d : Performed) → performed (plan_in t l w table fd x e z) z table ≡ d → Next c' ≡ on_performed d z i → InCourse base n first start t₀ t l v table' back' c' (i + 1) e
-        go (Stop k) y u =
-            let P = stepping z s (Stop k) y in
-            let d : c' ≡ Stopped k i = cc in
+        go : (d : Performed) → performed (plan_in t l w table fd x e z) z table ≡ d → Ok c' ≡ on_performed d z i → InCourse base n first start t₀ t l v table' back' c' (i + 1) e
+        go (Err (Refused k)) y u =
+            let P = stepping z s (Err (Refused k)) y in
+            let d : c' ≡ Err (k, i) = cc in
             subst (λ (y : Course). InCourse base n first start t₀ t l v table' back' y (i + 1) e) (sym d) (course_stops base n first start t₀ t l w table back i at few short h o.o e o.got z s P)
-        go NoWork y u = impossible (cc)
-        go (GoesOn z') y u =
-            let P = stepping z s (GoesOn z') y in
-            let d : c' ≡ Going z' = cc in
+        go (Err Full) y u = impossible (cc)
+        go (Ok z') y u =
+            let P = stepping z s (Ok z') y in
+            let d : c' ≡ Ok z' = cc in
             rw (d, m.1, m.2, m.3) (course_goes base n first start t₀ t l w table back i at few short h o.o e o.got z s
             (work_after t l w z.used (old_of fd z.head z.fields table) z.fields fd x e) (table_after (plan_in t l w table fd x e z) z table) (back_after (plan_in t l w table fd x e z) z table back) z' P.0 P.1)
 
     -- the operation has no room in the work array
     pub turn_full : Sources t l → (c : Course) (z' : Stage) (r : Stepped) (v : Bytes) (table' back' : List ℕ) → InCourse base n first start t₀ t l w table back c i at
-        → Steps c t l w table back fd x e i r v table' back' → r ≡ Full z' → Stalled (some t₀) t l v table' back' base n first start i at z'
-    turn_full S (Stopped k j) z' r v table' back' s m q = impossible (let y = m.0 in cc)
-    turn_full S (Going z) z' r v table' back' s m q = go (performed (plan_in t l w table fd x e z) z table) refl (sym q ∙ m.0)
+        → Steps c t l w table back fd x e i r v table' back' → r ≡ Err z' → Stalled (some t₀) t l v table' back' base n first start i at z'
+    turn_full S (Err (k, j)) z' r v table' back' s m q = impossible (let y = m.0 in cc)
+    turn_full S (Ok z) z' r v table' back' s m q = go (performed (plan_in t l w table fd x e z) z table) refl (sym q ∙ m.0)
       where
-        go : (d : Performed) → performed (plan_in t l w table fd x e z) z table ≡ d → Full z' ≡ on_performed d z i → Stalled (some t₀) t l v table' back' base n first start i at z'
-        go (Stop k) y u = impossible (cc)
-        go (GoesOn z'') y u = impossible (cc)
-        go NoWork y u =
+        go : (d : Performed) → performed (plan_in t l w table fd x e z) z table ≡ d → Err z' ≡ on_performed d z i → Stalled (some t₀) t l v table' back' base n first start i at z'
+        go (Err (Refused k)) y u = impossible (cc)
+        go (Ok z'') y u = impossible (cc)
+        go (Err Full) y u =
             let p = full_plan (plan_in t l w table fd x e z) z table y in
             let F = rw p at (planning z s).means in
             let a : v ≡ w = m.1 ∙ F.same in

@@ -1,4 +1,5 @@
 -- A run goes from one operation to the next. Assumes nothing.
+use Rattle.std.specs.Prelude.{Ok, Err}
 use mathlib.Core.Path.{◌≡◌, refl, sym, ap, ◌∙◌, subst}
 use mathlib.Core.Logic.{◌⊎◌, inl, inr, ⊎_elim}
 use mathlib.Core.List.{List, [], ◌∷◌, ◌++◌, append_assoc}
@@ -23,7 +24,7 @@ use Rattle.update_places.specs.Place.{Sources}
 use Rattle.update_operations.proofs.Listing.{operations_end, operations_over, operations-fails, operations-more}
 use Rattle.update_planning.proofs.Plans.{Fills}
 use Rattle.update_running.specs.declared.Stage.{Stage}
-use Rattle.update_running.specs.declared.Course.{Course, TheVariants.Going, TheVariants.Stopped}
+use Rattle.update_running.specs.Course.{Course}
 use Rattle.update_running.specs.Held.{fields_now, Held}
 use Rattle.update_running.specs.Carrying.{Came, stops, makes, came_by, comes_to, takes_back, rest_of, work_room, Stalled, Carries, finishes_by}
 use Rattle.update_running.proofs.Holding.{joined-append, edited_bytes}
@@ -107,8 +108,8 @@ pub record HeldUp (base n first start : ℕ) (t₀ : Fields) (l : Bytes) (k : Re
   pub few : j ≤ max_operations
 
 abbrev pub InCourse : ℕ → ℕ → ℕ → ℕ → Fields → Bytes → Bytes → Bytes → List ℕ → List ℕ → Course → ℕ → ℕ → Type 0
-InCourse base n first start t₀ t l w table back (Going z) i at = Sofar base n first start t₀ t l w table back z i at
-InCourse base n first start t₀ t l w table back (Stopped k j) i at = HeldUp base n first start t₀ l k j i at
+InCourse base n first start t₀ t l w table back (Ok z) i at = Sofar base n first start t₀ t l w table back z i at
+InCourse base n first start t₀ t l w table back (Err (k, j)) i at = HeldUp base n first start t₀ l k j i at
 
 -- ---- the work array is full
 
@@ -154,8 +155,8 @@ module _ (base n first start : ℕ) (t₀ : Fields) (t l w : Bytes) (table back 
   pub course_bad : (c : Course) → InCourse base n first start t₀ t l w table back c i at → operation base (drop at l) ≡ fails
       → comes_to first (some t₀) (rest_of base n first start l) ≡ stops BadList 0
   unfolding comes_to
-  course_bad (Going z) s e = s.goes ∙ ap (comes_to i (some (fields_now t l w table z))) (rest_bad base n l few short i at h e)
-  course_bad (Stopped k j) s e = s.goes ∙ ap (held_up k j) (rest_bad base n l few short i at h e)
+  course_bad (Ok z) s e = s.goes ∙ ap (comes_to i (some (fields_now t l w table z))) (rest_bad base n l few short i at h e)
+  course_bad (Err (k, j)) s e = s.goes ∙ ap (held_up k j) (rest_bad base n l few short i at h e)
 
   module _ (o : Operation) (e : ℕ) (g : operation base (drop at l) ≡ gets o (drop e l)) where
     pub course_passed : {k : Refusal} {j : ℕ} → HeldUp base n first start t₀ l k j i at → HeldUp base n first start t₀ l k j (i + 1) e
@@ -203,13 +204,13 @@ module _ (base n first start : ℕ) (t₀ : Fields) (t l w : Bytes) (table back 
 module _ (base n first start : ℕ) (t₀ : Fields) (t l w : Bytes) (table back : List ℕ) (i at : ℕ) (few : n ≤ max_operations) (short : length l ≤ max_list) (h : n ≤ i) where
   pub course_over : (c : Course) → InCourse base n first start t₀ t l w table back c i at → at < length l → comes_to first (some t₀) (rest_of base n first start l) ≡ stops BadList 0
   unfolding comes_to
-  course_over (Going z) s k = s.goes ∙ ap (comes_to i (some (fields_now t l w table z))) (rest_over base n l few short i at h k)
-  course_over (Stopped k j) s x = s.goes ∙ ap (held_up k j) (rest_over base n l few short i at h x)
+  course_over (Ok z) s k = s.goes ∙ ap (comes_to i (some (fields_now t l w table z))) (rest_over base n l few short i at h k)
+  course_over (Err (k, j)) s x = s.goes ∙ ap (held_up k j) (rest_over base n l few short i at h x)
 
   pub course_ends : (c : Course) → InCourse base n first start t₀ t l w table back c i at → Sources t l → length l ≤ at
       → Carries (finishes_by c) (some t₀) t l w table back base n first start
   unfolding comes_to run plans undo_of
-  course_ends (Going z) s S k =
+  course_ends (Ok z) s S k =
       let e = rest_end base n l few short i at h k in
       let m : n - i ≡ 0 = omega arith in
       record {
@@ -219,4 +220,4 @@ module _ (base n first start : ℕ) (t₀ : Fields) (t l w : Bytes) (table back 
         goes = s.goes ∙ ap (comes_to i (some (fields_now t l w table z))) e;
         undoes = s.undoes ∙ ap (later_back s.us (fields_now t l w table z)) e;
       }
-  course_ends (Stopped k j) s S x = (s.goes ∙ ap (held_up k j) (rest_end base n l few short i at h x), s.few)
+  course_ends (Err (k, j)) s S x = (s.goes ∙ ap (held_up k j) (rest_end base n l few short i at h x), s.few)

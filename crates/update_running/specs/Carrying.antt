@@ -1,5 +1,5 @@
 -- Inner: what a list comes to on a tuple: "In updating: 11, 12, then per operation 13 to 16".
-use Rattle.std.specs.Prelude.{ℕ, ◌+◌, ◌-◌, ◌<◌, ◌≤◌, ◌≡◌, ◌&&◌, ◌⊎◌, List, [], leb, ltb, length, drop}
+use Rattle.std.specs.Prelude.{ℕ, ◌+◌, ◌-◌, ◌<◌, ◌≤◌, ◌≡◌, ◌&&◌, ◌⊎◌, List, [], leb, ltb, length, drop, Ok, Err, Result}
 use Rattle.std.proofs.Math.Option.{Option, none, some}
 use Rattle.msgpack_first_bytes.specs.Bytes.{Bytes, pick}
 use Rattle.msgpack_values.specs.Value.{value}
@@ -12,11 +12,14 @@ use Rattle.tuples.specs.declared.Refusal.{Refusal}
 use Rattle.tuples.specs.declared.Refusal.TheVariants.{BadTuple, BadList}
 use Rattle.update_places.specs.Place.{Sources}
 use Rattle.update_running.specs.declared.Stage.{Stage}
-use Rattle.update_running.specs.declared.Course.{Course}
-use Rattle.update_running.specs.declared.Course.TheVariants.{Going, Stopped}
-use Rattle.update_running.specs.declared.Ran.{Ran}
-use Rattle.update_running.specs.declared.Ran.TheVariants.{NoRoom, Full, Refused, Done}
+use Rattle.update_running.specs.Course.{Course}
 use Rattle.update_running.specs.Held.{fields_now, Held}
+use Rattle.update_running.specs.declared.Unfinished.TheVariants.{Full, NoRoom, Refused}
+use Rattle.update_running.specs.declared.Unfinished.{Unfinished}
+
+-- the stage after all operations, or why there is none
+abbrev pub Ran : Type 0
+Ran = Result Stage Unfinished
 
 -- a refusal with the operation's index; or the fields that are made
 pub data Came : Type 0 where
@@ -73,10 +76,10 @@ pub record Carried (T : Option Fields) (t l w : Bytes) (table back : List ℕ) (
   pub undoes : takes_back T (rest_of base n first start l) ≡ us
 
 abbrev pub Carries : Ran → Option Fields → Bytes → Bytes → Bytes → List ℕ → List ℕ → ℕ → ℕ → ℕ → ℕ → Type 0
-Carries NoRoom T t l w table back base n first start = (length table < table_room) ⊎ (work_room < length w)
-Carries (Full z at i) T t l w table back base n first start = Stalled T t l w table back base n first start i at z
-Carries (Refused k i) T t l w table back base n first start = (comes_to first T (rest_of base n first start l) ≡ stops k i) × (i ≤ max_operations)
-Carries (Done z) T t l w table back base n first start = Carried T t l w table back base n first start z
+Carries (Err NoRoom) T t l w table back base n first start = (length table < table_room) ⊎ (work_room < length w)
+Carries (Err (Full z at i)) T t l w table back base n first start = Stalled T t l w table back base n first start i at z
+Carries (Err (Refused k i)) T t l w table back base n first start = (comes_to first T (rest_of base n first start l) ≡ stops k i) × (i ≤ max_operations)
+Carries (Ok z) T t l w table back base n first start = Carried T t l w table back base n first start z
 
 -- where a run begins: the fields of the tuple are held, no operation of the list is laid, and the list is not too long
 pub record Begun (t l w : Bytes) (table back : List ℕ) (n first : ℕ) (z : Stage) : Type 0 where
@@ -90,8 +93,8 @@ pub record Begun (t l w : Bytes) (table back : List ℕ) (n first : ℕ) (z : St
 
 -- all operations are read, up to a place: the list ends there, or it is refused
 abbrev pub finishes_by : Course → Ran
-finishes_by (Going z) = Done z
-finishes_by (Stopped k i) = Refused k i
+finishes_by (Ok z) = Ok z
+finishes_by (Err (k, i)) = Err (Refused k i)
 
 unfoldable pub finishing : Course → ℕ → Bytes → Ran
-finishing c at l = pick (ltb at (length l)) (Refused BadList 0) (finishes_by c)
+finishing c at l = pick (ltb at (length l)) (Err (Refused BadList 0)) (finishes_by c)

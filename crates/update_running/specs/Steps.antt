@@ -1,18 +1,21 @@
 -- Inner: what a plan does to the table, and to the entries from which the undo list is written, by numbers alone.
-use Rattle.std.specs.Prelude.{ℕ, suc, ◌+◌, ◌-◌, ◌*◌, ◌/◌, ◌%◌, ◌^◌, ◌<◌, ◌≤◌, min, ◌≡◌, Bool, ◌&&◌, List, [], ◌∷◌, map, leb, ltb, length, get_or, set}
+use Rattle.std.specs.Prelude.{ℕ, suc, ◌+◌, ◌-◌, ◌*◌, ◌/◌, ◌%◌, ◌^◌, ◌<◌, ◌≤◌, min, ◌≡◌, Bool, ◌&&◌, List, [], ◌∷◌, map, leb, ltb, length, get_or, set, Some, None, Ok, Err, Result}
 use Rattle.msgpack_first_bytes.specs.Bytes.{pick}
 use Rattle.msgpack_writing.specs.Forms.{unsigned_form, array_header}
 use Rattle.tuples.specs.Limits.{max_fields, max_tuple}
 use Rattle.tuples.specs.declared.Refusal.TheVariants.{TooLarge}
 use Rattle.update_places.specs.Place.{length_of, sum}
 use Rattle.update_table.specs.Table.{window, added, head_added, removed, head_removed}
-use Rattle.update_numbers.specs.declared.Field.{Field}
-use Rattle.update_numbers.specs.declared.Field.TheVariants.{At, Below}
-use Rattle.update_planning.specs.declared.Planned.{Planned}
-use Rattle.update_planning.specs.declared.Planned.TheVariants.{Refuse, Full, Put, Add, Cut}
+use Rattle.update_numbers.specs.FieldNumber.{Field}
+use Rattle.update_planning.specs.Plan.{Planned}
 use Rattle.update_running.specs.declared.Stage.{Stage}
-use Rattle.update_running.specs.declared.Performed.{Performed}
-use Rattle.update_running.specs.declared.Performed.TheVariants.{Stop, Full as NoWork, Next}
+use Rattle.update_altering.specs.declared.Obstacle.TheVariants.{Full, Refused}
+use Rattle.update_planning.specs.declared.Plan.TheVariants.{Add, Cut, Put}
+use Rattle.update_altering.specs.declared.Obstacle.{Obstacle}
+
+-- the stage after an operation, or why there is none
+abbrev pub Performed : Type 0
+Performed = Result Stage Obstacle
 
 -- ---- an entry of the undo list: 16 bits of mark, 16 bits of field number, a place
 unfoldable pub entry_of : ℕ → ℕ → ℕ → ℕ
@@ -34,8 +37,8 @@ laid_from k (e ∷ es) back = laid_from (suc k) es (set back k e)
 
 -- ---- the place of the field of an operation's number; 0 where there is none
 abbrev pub old_of : Field → ℕ → ℕ → List ℕ → ℕ
-old_of (At f) head n table = pick (ltb f n) (get_or table (head + f) 0) 0
-old_of Below head n table = 0
+old_of (Some f) head n table = pick (ltb f n) (get_or table (head + f) 0) 0
+old_of None head n table = 0
 
 -- ---- a plan performed
 
@@ -100,37 +103,37 @@ cut_stage f m z table =
     }
 
 abbrev pub performed : Planned → Stage → List ℕ → Performed
-performed (Refuse k) z table = Stop k
-performed Full z table = NoWork
-performed (Put f p u) z table = pick (fitting z.fields (bytes_put f p z table)) (Next (put_stage f p u z table)) (Stop TooLarge)
-performed (Add f p) z table = pick (fitting (z.fields + 1) (z.bytes + length_of p)) (Next (add_stage f p z table)) (Stop TooLarge)
-performed (Cut f m) z table = Next (cut_stage f m z table)
+performed (Err (Refused k)) z table = Err (Refused k)
+performed (Err Full) z table = Err Full
+performed (Ok (Put f p u)) z table = pick (fitting z.fields (bytes_put f p z table)) (Ok (put_stage f p u z table)) (Err (Refused TooLarge))
+performed (Ok (Add f p)) z table = pick (fitting (z.fields + 1) (z.bytes + length_of p)) (Ok (add_stage f p z table)) (Err (Refused TooLarge))
+performed (Ok (Cut f m)) z table = Ok (cut_stage f m z table)
 
 abbrev pub table_after : Planned → Stage → List ℕ → List ℕ
-table_after (Refuse k) z table = table
-table_after Full z table = table
-table_after (Put f p u) z table = pick (fitting z.fields (bytes_put f p z table)) (set table (z.head + f) p) table
-table_after (Add f p) z table = pick (fitting (z.fields + 1) (z.bytes + length_of p)) (added z.head z.fields f p table) table
-table_after (Cut f m) z table = removed z.head z.fields f m table
+table_after (Err (Refused k)) z table = table
+table_after (Err Full) z table = table
+table_after (Ok (Put f p u)) z table = pick (fitting z.fields (bytes_put f p z table)) (set table (z.head + f) p) table
+table_after (Ok (Add f p)) z table = pick (fitting (z.fields + 1) (z.bytes + length_of p)) (added z.head z.fields f p table) table
+table_after (Ok (Cut f m)) z table = removed z.head z.fields f m table
 
 -- "`= f old` ..; `# f 1` ..; for m removed fields, m times `! f`"
 abbrev pub back_after : Planned → Stage → List ℕ → List ℕ → List ℕ
-back_after (Refuse k) z table back = back
-back_after Full z table back = back
-back_after (Put f p u) z table back =
+back_after (Err (Refused k)) z table back = back
+back_after (Err Full) z table back = back
+back_after (Ok (Put f p u)) z table back =
     pick (fitting z.fields (bytes_put f p z table)) (set back z.laid (entry_of 0x3d f (gone_place f z table))) back
-back_after (Add f p) z table back = pick (fitting (z.fields + 1) (z.bytes + length_of p)) (set back z.laid (entry_of 0x23 f 0)) back
-back_after (Cut f m) z table back = laid_from z.laid (map (entry_of 0x21 f) (gone_places f m z table)) back
+back_after (Ok (Add f p)) z table back = pick (fitting (z.fields + 1) (z.bytes + length_of p)) (set back z.laid (entry_of 0x23 f 0)) back
+back_after (Ok (Cut f m)) z table back = laid_from z.laid (map (entry_of 0x21 f) (gone_places f m z table)) back
 
 -- ---- what performing asks
 
 -- the fields that it speaks of are among n
 abbrev pub Among : Planned → ℕ → Type 0
-Among (Refuse k) n = Unit {0}
-Among Full n = Unit {0}
-Among (Put f p u) n = f < n
-Among (Add f p) n = f ≤ n
-Among (Cut f m) n = f + m ≤ n
+Among (Err (Refused k)) n = Unit {0}
+Among (Err Full) n = Unit {0}
+Among (Ok (Put f p u)) n = f < n
+Among (Ok (Add f p)) n = f ≤ n
+Among (Ok (Cut f m)) n = f + m ≤ n
 
 -- the entries in use lie in the table; and no number can wrap
 pub record Sound (z : Stage) (table : List ℕ) : Type 0 where

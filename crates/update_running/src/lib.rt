@@ -8,17 +8,18 @@ ghost use Rattle.tuples.specs.Limits.{max_fields, max_operations};
 ghost use Rattle.tuples.specs.Tuple.{fields_of};
 ghost use Rattle.update_places.specs.Place.{length_of, sum};
 ghost use Rattle.update_table.specs.Table.{window};
-ghost use Rattle.update_planning.specs.declared.Planned.TheVariants.{Put, Add, Cut};
 ghost use Rattle.update_running.specs.Steps.{entry_of, laid_from, old_of, fitting, performed, table_after, back_after, Among, Sound};
 ghost use Rattle.update_running.specs.Held.{fields_now};
 ghost use Rattle.update_running.specs.Course.{stepped, work_step, table_step, back_step, CourseSound};
 ghost use Rattle.update_running.specs.Carrying.{Carries, Begun, finishing};
+ghost use Rattle.update_planning.specs.declared.Plan.TheVariants.{Add, Put, Cut};
 
+use update_altering::Obstacle;
 use tuples::{MAX_FIELDS, MAX_LIST, MAX_OPERATIONS, MAX_TUPLE, Refusal};
-use update_loading::Loaded;
+use update_loading::Unloaded;
 use update_numbers::Field;
-use update_operations::{Action, Decoded};
-use update_planning::Planned;
+use update_operations::Action;
+use update_planning::{Plan, Planned};
 
 // A table of so many entries has room for every tuple and every list.
 pub const TABLE_ROOM: usize = MAX_FIELDS + MAX_OPERATIONS + MAX_OPERATIONS;
@@ -49,34 +50,24 @@ pub struct Stage {
 
 // What a list comes to: the arrays are too small for the tuple and the list; the work array is full at an
 // operation, given by its place and its index; it is refused; all is done.
+// Why a list is not done: the arrays are too small for the tuple and the list; the work array is full at an
+// operation, given by its place and its index; an operation, or the list, is refused.
 #[derive(Clone, Copy)]
-pub enum Ran {
+pub enum Unfinished {
     NoRoom,
     Full(Stage, usize, usize),
     Refused(Refusal, usize),
-    Done(Stage),
 }
 
-#[derive(Clone, Copy)]
-enum Performed {
-    Stop(Refusal),
-    Full,
-    Next(Stage),
-}
+pub type Ran = Result<Stage, Unfinished>;
+
+type Performed = Result<Stage, Obstacle>;
 
 // In the course of a run: the stage; or the refusal of an operation, after which what is left is only read,
 // since a list that is refused is refused before any of its operations.
-#[derive(Clone, Copy)]
-enum Course {
-    Going(Stage),
-    Stopped(Refusal, usize),
-}
+type Course = Result<Stage, (Refusal, usize)>;
 
-#[derive(Clone, Copy)]
-enum Stepped {
-    Full(Stage),
-    Next(Course),
-}
+type Stepped = Result<Course, Stage>;
 
 // Of entries that go: the bytes of their fields, and of the operations that bring them back.
 #[derive(Clone, Copy)]
@@ -170,20 +161,20 @@ fn put_field(
     stage: Stage,
 ) -> Performed
     requires { Sound stage table.old × (f < stage.fields) }
-    ensures { (result ≡ performed (Put f p used) stage table.old)
-        × (table.new ≡ table_after (Put f p used) stage table.old)
-        × (back.new ≡ back_after (Put f p used) stage table.old back.old) }
+    ensures { (result ≡ performed (Ok (@update_planning:Plan:Put@ f p used)) stage table.old)
+        × (table.new ≡ table_after (Ok (@update_planning:Plan:Put@ f p used)) stage table.old)
+        × (back.new ≡ back_after (Ok (@update_planning:Plan:Put@ f p used)) stage table.old back.old) }
 {
     let at = stage.head + f;
     let old = table[at];
     let gone = update_places::length_of(old);
     let bytes = stage.bytes - gone + update_places::length_of(p);
     if !fits(stage.fields, bytes) {
-        return Performed::Stop(Refusal::TooLarge);
+        return Err(Obstacle::Refused(Refusal::TooLarge));
     }
     lay(back, stage.laid, entry_of(ASSIGN, f, old));
     table[at] = p;
-    Performed::Next(Stage {
+    Ok(Stage {
         head: stage.head,
         fields: stage.fields,
         bytes,
@@ -197,18 +188,18 @@ fn put_field(
 
 fn add_field(table: &mut [u32], back: &mut [u64], f: usize, p: u32, stage: Stage) -> Performed
     requires { Sound stage table.old × (f ≤ stage.fields) }
-    ensures { (result ≡ performed (Add f p) stage table.old)
-        × (table.new ≡ table_after (Add f p) stage table.old)
-        × (back.new ≡ back_after (Add f p) stage table.old back.old) }
+    ensures { (result ≡ performed (Ok (@update_planning:Plan:Add@ f p)) stage table.old)
+        × (table.new ≡ table_after (Ok (@update_planning:Plan:Add@ f p)) stage table.old)
+        × (back.new ≡ back_after (Ok (@update_planning:Plan:Add@ f p)) stage table.old back.old) }
 {
     let n = stage.fields;
     let bytes = stage.bytes + update_places::length_of(p);
     if !fits(n + 1, bytes) {
-        return Performed::Stop(Refusal::TooLarge);
+        return Err(Obstacle::Refused(Refusal::TooLarge));
     }
     lay(back, stage.laid, entry_of(REMOVE, f, 0));
     let head = update_table::add(table, stage.head, n, f, p);
-    Performed::Next(Stage {
+    Ok(Stage {
         head,
         fields: n + 1,
         bytes,
@@ -222,9 +213,9 @@ fn add_field(table: &mut [u32], back: &mut [u64], f: usize, p: u32, stage: Stage
 
 fn cut_fields(table: &mut [u32], back: &mut [u64], f: usize, m: usize, stage: Stage) -> Performed
     requires { Sound stage table.old × (f + m ≤ stage.fields) }
-    ensures { (result ≡ performed (Cut f m) stage table.old)
-        × (table.new ≡ table_after (Cut f m) stage table.old)
-        × (back.new ≡ back_after (Cut f m) stage table.old back.old) }
+    ensures { (result ≡ performed (Ok (@update_planning:Plan:Cut@ f m)) stage table.old)
+        × (table.new ≡ table_after (Ok (@update_planning:Plan:Cut@ f m)) stage table.old)
+        × (back.new ≡ back_after (Ok (@update_planning:Plan:Cut@ f m)) stage table.old back.old) }
 {
     let n = stage.fields;
     let from = stage.head + f;
@@ -236,7 +227,7 @@ fn cut_fields(table: &mut [u32], back: &mut [u64], f: usize, m: usize, stage: St
     );
     lay_removed(table, from, m, f, back, stage.laid);
     let head = update_table::remove(table, stage.head, n, f, m);
-    Performed::Next(Stage {
+    Ok(Stage {
         head,
         fields: n - m,
         bytes: stage.bytes - gone.bytes,
@@ -255,11 +246,11 @@ fn perform(table: &mut [u32], back: &mut [u64], plan: Planned, stage: Stage) -> 
         × (back.new ≡ back_after plan stage table.old back.old) }
 {
     match plan {
-        Planned::Refuse(refusal) => Performed::Stop(refusal),
-        Planned::Full => Performed::Full,
-        Planned::Put(f, p, used) => put_field(table, back, f, p, used, stage),
-        Planned::Add(f, p) => add_field(table, back, f, p, stage),
-        Planned::Cut(f, m) => cut_fields(table, back, f, m, stage),
+        Err(Obstacle::Refused(refusal)) => Err(Obstacle::Refused(refusal)),
+        Err(Obstacle::Full) => Err(Obstacle::Full),
+        Ok(Plan::Put(f, p, used)) => put_field(table, back, f, p, used, stage),
+        Ok(Plan::Add(f, p)) => add_field(table, back, f, p, stage),
+        Ok(Plan::Cut(f, m)) => cut_fields(table, back, f, m, stage),
     }
 }
 
@@ -269,7 +260,7 @@ fn entry_at(table: &[u32], head: usize, n: usize, field: Field) -> u32
     requires { head + n ≤ length table.now }
     ensures { result ≡ old_of field head n table.now }
 {
-    let Field::At(number) = field else {
+    let Some(number) = field else {
         return 0;
     };
     let f = number as usize;
@@ -299,17 +290,17 @@ fn step(
         × (back.new ≡ back_step course tuple.now list.now work.old table.old back.old field action end) }
 {
     match course {
-        Course::Stopped(refusal, j) => Stepped::Next(Course::Stopped(refusal, j)),
-        Course::Going(stage) => {
+        Err((refusal, j)) => Ok(Err((refusal, j))),
+        Ok(stage) => {
             let n = stage.fields;
             let old = entry_at(table, stage.head, n, field);
             let plan = update_planning::plan(
                 tuple, list, work, stage.used, old, n, field, action, end,
             );
             match perform(table, back, plan, stage) {
-                Performed::Stop(refusal) => Stepped::Next(Course::Stopped(refusal, i)),
-                Performed::Full => Stepped::Full(stage),
-                Performed::Next(next) => Stepped::Next(Course::Going(next)),
+                Err(Obstacle::Refused(refusal)) => Ok(Err((refusal, i))),
+                Err(Obstacle::Full) => Err(stage),
+                Ok(next) => Ok(Ok(next)),
             }
         }
     }
@@ -320,11 +311,11 @@ fn finished(list: &[u8], at: usize, course: Course) -> Ran
     ensures { result ≡ finishing course at list.now }
 {
     if at < list.len() {
-        return Ran::Refused(Refusal::BadList, 0);
+        return Err(Unfinished::Refused(Refusal::BadList, 0));
     }
     match course {
-        Course::Going(stage) => Ran::Done(stage),
-        Course::Stopped(refusal, i) => Ran::Refused(refusal, i),
+        Ok(stage) => Ok(stage),
+        Err((refusal, i)) => Err(Unfinished::Refused(refusal, i)),
     }
 }
 
@@ -345,20 +336,20 @@ fn run(
     ensures { Carries result (some (fields_now tuple.now list.now work.old table.old stage))
         tuple.now list.now work.new table.new back.new base count first start }
 {
-    let mut course = Course::Going(stage);
+    let mut course = Ok(stage);
     let mut at = start;
     let mut i = first;
     while i < count {
-        let Decoded::Is(field, action, end) = update_operations::operation_at(list, at, base) else {
-            return Ran::Refused(Refusal::BadList, 0);
+        let Some((field, action, end)) = update_operations::operation_at(list, at, base) else {
+            return Err(Unfinished::Refused(Refusal::BadList, 0));
         };
         match step(
             tuple, list, work, table, back, field, action, end, i, course,
         ) {
-            Stepped::Full(full) => {
-                return Ran::Full(full, at, i);
+            Err(full) => {
+                return Err(Unfinished::Full(full, at, i));
             }
-            Stepped::Next(next) => {
+            Ok(next) => {
                 course = next;
             }
         }
@@ -396,21 +387,21 @@ pub fn carry_out(
 {
     let left = left_of(first, count);
     if WORK_ROOM < work.len() {
-        return Ran::NoRoom;
+        return Err(Unfinished::NoRoom);
     }
     if table.len() < left + left {
-        return Ran::NoRoom;
+        return Err(Unfinished::NoRoom);
     }
     let high = table.len() - left;
     match update_loading::load(tuple, &mut table[left..high]) {
-        Loaded::Bad => Ran::Refused(Refusal::BadTuple, 0),
-        Loaded::NoRoom => Ran::NoRoom,
-        Loaded::Fields(n, from) => {
+        Err(Unloaded::Bad) => Err(Unfinished::Refused(Refusal::BadTuple, 0)),
+        Err(Unloaded::NoRoom) => Err(Unfinished::NoRoom),
+        Ok((n, from)) => {
             if MAX_OPERATIONS < count {
-                return Ran::Refused(Refusal::BadList, 0);
+                return Err(Unfinished::Refused(Refusal::BadList, 0));
             }
             if MAX_LIST < list.len() {
-                return Ran::Refused(Refusal::BadList, 0);
+                return Err(Unfinished::Refused(Refusal::BadList, 0));
             }
             let stage = Stage {
                 head: left,

@@ -1,4 +1,5 @@
 -- Sums and differences by the signs. Assumes nothing.
+use Rattle.std.specs.Prelude.{Some, None}
 use mathlib.Core.Path.{◌≡◌, refl, sym, ap, ◌∙◌}
 use mathlib.Core.Logic.{⊎_elim}
 use Prim.Native.Nat.{ℕ, zero, suc, ◌+◌, ◌-◌, ◌^◌, ◌<◌, ◌≤◌}
@@ -10,21 +11,20 @@ use Rattle.msgpack_scalars.specs.declared.Int.{Int, TheVariants.FromZero, TheVar
 use Rattle.msgpack_first_bytes.proofs.Logic.{either}
 use Rattle.tuples.specs.Edit.{asℤ}
 use Rattle.update_sums.specs.Range.{in_range}
-use Rattle.update_sums.specs.declared.Sum.TheVariants.{Is, OutOfRange}
 
-pub from_is : (n : ℕ) → n < 2 ^ 64 → Is (FromZero n) ≡ in_range (pos n)
+pub from_is : (n : ℕ) → n < 2 ^ 64 → Some (FromZero n) ≡ in_range (pos n)
 unfolding in_range
 from_is n h = rw (lt-ltb n (2 ^ 64) h)
 
-pub from_out : (n : ℕ) → 2 ^ 64 ≤ n → OutOfRange ≡ in_range (pos n)
+pub from_out : (n : ℕ) → 2 ^ 64 ≤ n → None ≡ in_range (pos n)
 unfolding in_range
 from_out n h = rw (le-ltb n (2 ^ 64) h)
 
-pub below-is : (m : ℕ) → m < 2 ^ 63 → Is (BelowZero m) ≡ in_range (negsuc m)
+pub below-is : (m : ℕ) → m < 2 ^ 63 → Some (BelowZero m) ≡ in_range (negsuc m)
 unfolding in_range
 below-is m h = rw (lt-ltb m (2 ^ 63) h)
 
-pub below_out : (m : ℕ) → 2 ^ 63 ≤ m → OutOfRange ≡ in_range (negsuc m)
+pub below_out : (m : ℕ) → 2 ^ 63 ≤ m → None ≡ in_range (negsuc m)
 unfolding in_range
 below_out m h = rw (le-ltb m (2 ^ 63) h)
 

@@ -12,66 +12,60 @@ const MOST: u64 = 0xffff_ffff_ffff_ffff;
 
 const SIGN: u64 = 0x8000_0000_0000_0000;
 
-#[derive(Clone, Copy)]
-pub enum Sum {
-    Is(Int),
-    OutOfRange,
-}
-
 // The number -1 - m.
-fn below(m: u64) -> Sum
+fn below(m: u64) -> Option<Int>
     ensures { result ≡ in_range (negsuc m) }
 {
     if m < SIGN {
-        return Sum::Is(Int::BelowZero(m));
+        return Some(Int::BelowZero(m));
     }
-    Sum::OutOfRange
+    None
 }
 
 // x + y.
-fn raised(x: u64, y: u64) -> Sum
+fn raised(x: u64, y: u64) -> Option<Int>
     ensures { result ≡ in_range (pos (x + y)) }
 {
     if x <= MOST - y {
-        return Sum::Is(Int::FromZero(x + y));
+        return Some(Int::FromZero(x + y));
     }
-    Sum::OutOfRange
+    None
 }
 
 // x - y.
-fn gap(x: u64, y: u64) -> Sum
+fn gap(x: u64, y: u64) -> Option<Int>
     ensures { result ≡ in_range (sub_ℕ x y) }
 {
     if y <= x {
-        return Sum::Is(Int::FromZero(x - y));
+        return Some(Int::FromZero(x - y));
     }
     below(y - x - 1)
 }
 
 // x - (m + 1), without that sum, which could wrap.
-fn mixed(x: u64, m: u64) -> Sum
+fn mixed(x: u64, m: u64) -> Option<Int>
     ensures { result ≡ in_range (pos x +ℤ negsuc m) }
 {
     if m < x {
-        return Sum::Is(Int::FromZero(x - m - 1));
+        return Some(Int::FromZero(x - m - 1));
     }
     below(m - x)
 }
 
 // The number -1 - (a + b).
-fn lowered(a: u64, b: u64) -> Sum
+fn lowered(a: u64, b: u64) -> Option<Int>
     ensures { result ≡ in_range (negsuc (a + b)) }
 {
     if SIGN <= a {
-        return Sum::OutOfRange;
+        return None;
     }
     if SIGN <= b {
-        return Sum::OutOfRange;
+        return None;
     }
     below(a + b)
 }
 
-pub fn add(z: Int, v: Int) -> Sum
+pub fn add(z: Int, v: Int) -> Option<Int>
     ensures { result ≡ in_range (asℤ z +ℤ asℤ v) }
 {
     match z {
@@ -83,7 +77,7 @@ pub fn add(z: Int, v: Int) -> Sum
             Int::FromZero(y) => mixed(y, a),
             Int::BelowZero(b) => {
                 if b == MOST {
-                    return Sum::OutOfRange;
+                    return None;
                 }
                 lowered(a, b + 1)
             }
@@ -91,7 +85,7 @@ pub fn add(z: Int, v: Int) -> Sum
     }
 }
 
-pub fn subtract(z: Int, v: Int) -> Sum
+pub fn subtract(z: Int, v: Int) -> Option<Int>
     ensures { result ≡ in_range (asℤ z -ℤ asℤ v) }
 {
     match z {
@@ -99,7 +93,7 @@ pub fn subtract(z: Int, v: Int) -> Sum
             Int::FromZero(y) => gap(x, y),
             Int::BelowZero(b) => {
                 if b == MOST {
-                    return Sum::OutOfRange;
+                    return None;
                 }
                 raised(x, b + 1)
             }

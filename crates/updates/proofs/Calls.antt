@@ -1,4 +1,5 @@
 -- From what a list came to, to what the calls show. Assumes nothing.
+use Rattle.std.specs.Prelude.{Some, None, Ok, Err, Option}
 use mathlib.Core.Path.{◌≡◌, refl, sym, ap, ◌∙◌, subst}
 use mathlib.Core.Bool.{true}
 use mathlib.Core.Logic.{◌⊎◌, inl, inr, ⊎_elim}
@@ -28,26 +29,24 @@ use Rattle.tuples.proofs.Taking.{run_undone}
 use Rattle.tuples.proofs.Tuple.{fields-legal}
 use Rattle.update_answers.specs.Seen.{seen, press_seen}
 use Rattle.update_operations.specs.Listing.{front}
-use Rattle.update_operations.specs.declared.Listed.{Listed, TheVariants.Good, TheVariants.Bad}
 use Rattle.update_operations.proofs.Listing.{good, bad}
 use Rattle.update_running.specs.Carrying.{Came, stops, makes, came_by, comes_to, takes_back, rest_of, table_room, work_room}
 use Rattle.msgpack_writing.specs.Put.{next}
 use Rattle.msgpack_writing.specs.Put as Writing
 use Rattle.msgpack_writing.proofs.Put.{wrote, through}
-use Rattle.update_delivering.specs.Delivering.{Rebased, update_by, undo_by, long_by, both_written, Lacks, TriesUpdate, TriesUndo, TriesPress}
-use Rattle.update_delivering.specs.declared.Tried.{Tried, TheVariants.NoRoom as NotTried, TheVariants.Moved, TheVariants.Refused as TriedRefused, TheVariants.Written as TriedWritten}
-use Rattle.update_delivering.specs.declared.Pressed.{Pressed, TheVariants.NoRoom as NoPress, TheVariants.Refused as Declined, TheVariants.Written as Both}
+use Rattle.update_delivering.specs.Delivering.{Rebased, update_by, undo_by, long_by, both_written, Lacks, TriesUpdate, TriesUndo, TriesPress, Tried, Pressed}
 use Rattle.updates.specs.declared.Front.{Front}
-use Rattle.updates.specs.declared.Call.{Call, TheVariants.NoRoom, TheVariants.Refused, TheVariants.Written}
-use Rattle.updates.specs.Telling.{Fronts, came_of, call_of, Tells, Told, ToldOrLong, PressTells, PressToldOrLong, Refuses, answer_by, FewIn, press_answer_by}
+use Rattle.updates.specs.Telling.{Call, Fronts, came_of, call_of, Tells, Told, ToldOrLong, PressTells, PressToldOrLong, Refuses, answer_by, FewIn, press_answer_by}
+use Rattle.update_delivering.specs.declared.Failed.TheVariants.{NoRoom, Refused}
+use Rattle.update_delivering.specs.declared.Unwritten.TheVariants.{Moved, NoRoom as NoRoomYet, Refused as RefusedYet}
 
 -- ---- the front of a list
 
-pub front_good : (base : ℕ) (l : Bytes) {r : Listed} → r ≡ front base l → {n e : ℕ} → r ≡ Good n e → Fronts base l (record { count = n; start = e })
+pub front_good : (base : ℕ) (l : Bytes) {r : (Option (ℕ × ℕ))} → r ≡ front base l → {n e : ℕ} → r ≡ Some (n, e) → Fronts base l (record { count = n; start = e })
 unfolding rest_of
 front_good base l h {n} {e} q = let j = good base l h q in rw (le-leb n max_operations j.few, le-leb (length l) max_list j.short, sub-zero) (sym j.all)
 
-pub front_bad : (base : ℕ) (l : Bytes) {r : Listed} → r ≡ front base l → r ≡ Bad → Fronts base l (record { count = 65; start = 0 })
+pub front_bad : (base : ℕ) (l : Bytes) {r : (Option (ℕ × ℕ))} → r ≡ front base l → r ≡ None → Fronts base l (record { count = 65; start = 0 })
 unfolding rest_of
 front_bad base l h q = sym (bad base l h q)
 
@@ -109,10 +108,10 @@ module _ (t l : Bytes) (b : ℕ) (f : Front) (F : Fronts b l f) (out left : Byte
   updates_as = ap (λ (c : Came). delivered (update_by c) out) came-is ∙ ap (λ (o : Outcome). delivered o out) (sym (update-came t l b))
 
   pub told-update : (r : Tried) (spare spare' work : Bytes) (table : List ℕ) → TriesUpdate r came l out left spare spare' work table b f.count 0 → Tells (call_of r) (update t l b) out left
-  told-update NotTried spare spare' work table h = h.0
-  told-update (Moved n at i) spare spare' work table h = h.0
-  told-update (TriedRefused k i) spare spare' work table h = (h.0 ∙ updates_as, h.2)
-  told-update (TriedWritten n) spare spare' work table h = h.0 ∙ updates_as
+  told-update (Err NoRoomYet) spare spare' work table h = h.0
+  told-update (Err (Moved n at i)) spare spare' work table h = h.0
+  told-update (Err (RefusedYet k i)) spare spare' work table h = (h.0 ∙ updates_as, h.2)
+  told-update (Ok n) spare spare' work table h = h.0 ∙ updates_as
 
   abbrev taken : List Bytes
   taken = takes_back (fields_of t) (rest_of b f.count 0 f.start l)
@@ -124,10 +123,10 @@ module _ (t l : Bytes) (b : ℕ) (f : Front) (F : Fronts b l f) (out left : Byte
   undo_as = ap (λ (o : Outcome). delivered o out) undo-is
 
   pub told-undo : (r : Tried) (work : Bytes) (table : List ℕ) → TriesUndo r came taken out left work table → Tells (call_of r) (undo t l b) out left
-  told-undo NotTried work table h = h.0
-  told-undo (Moved n at i) work table h = absurd h
-  told-undo (TriedRefused k i) work table h = (h.0 ∙ undo_as, h.1)
-  told-undo (TriedWritten n) work table h = h ∙ undo_as
+  told-undo (Err NoRoomYet) work table h = h.0
+  told-undo (Err (Moved n at i)) work table h = absurd h
+  told-undo (Err (RefusedYet k i)) work table h = (h.0 ∙ undo_as, h.1)
+  told-undo (Ok n) work table h = h ∙ undo_as
 
   -- in the longest arrays
   long_as : (work : Bytes) (table : List ℕ) → table_room ≤ length table → length work ≡ work_room → Lacks table work ⊎ (length work < work_room) ⊎ (undo_by came taken ≡ long_by came) → undo t l b ≡ long_by (came_of t l b)
@@ -138,10 +137,10 @@ module _ (t l : Bytes) (b : ℕ) (f : Front) (F : Fronts b l f) (out left : Byte
 
   pub told-long : (r : Tried) (work : Bytes) (table : List ℕ) → table_room ≤ length table → length work ≡ work_room → TriesUndo r came taken out left work table
       → ToldOrLong (call_of r) (undo t l b) (came_of t l b) out left
-  told-long NotTried work table h k s = (s.0, long_as work table h k s.1)
-  told-long (Moved n at i) work table h k s = absurd s
-  told-long (TriedRefused k' i) work table h k s = (s.0 ∙ undo_as, s.1)
-  told-long (TriedWritten n) work table h k s = s ∙ undo_as
+  told-long (Err NoRoomYet) work table h k s = (s.0, long_as work table h k s.1)
+  told-long (Err (Moved n at i)) work table h k s = absurd s
+  told-long (Err (RefusedYet k' i)) work table h k s = (s.0 ∙ undo_as, s.1)
+  told-long (Ok n) work table h k s = s ∙ undo_as
 
   module _ (un undone : Bytes) where
     press_as : pressed (pressing (update_by came) (undo_by came taken)) out un ≡ pressed (press t l b) out un
@@ -149,29 +148,29 @@ module _ (t l : Bytes) (b : ℕ) (f : Front) (F : Fronts b l f) (out left : Byte
     press_as = ap (λ (o : Outcome). pressed (pressing (update_by came) o) out un) undo-is ∙ ap (λ (o : Outcome). pressed (pressing o (undo t l b)) out un) (ap update_by came-is ∙ sym (update-came t l b))
 
     pub told-press : (r : Pressed) (work : Bytes) (table : List ℕ) → TriesPress r came taken out left un undone work table → PressTells r (press t l b) out left un undone
-    told-press NoPress work table s = (s.0, s.1)
-    told-press (Declined k i) work table s = (s.0 ∙ press_as, s.1)
-    told-press (Both n m) work table s = s ∙ press_as
+    told-press (Err NoRoom) work table s = (s.0, s.1)
+    told-press (Err (Refused k i)) work table s = (s.0 ∙ press_as, s.1)
+    told-press (Ok (n, m)) work table s = s ∙ press_as
 
     pub told-long-press : (r : Pressed) (work : Bytes) (table : List ℕ) → table_room ≤ length table → length work ≡ work_room → TriesPress r came taken out left un undone work table
         → PressToldOrLong r (press t l b) (undo t l b) (came_of t l b) out left un undone
-    told-long-press NoPress work table h k s = (s.0, s.1, long_as work table h k s.2)
-    told-long-press (Declined k' i) work table h k s = (s.0 ∙ press_as, s.1)
-    told-long-press (Both n m) work table h k s = s ∙ press_as
+    told-long-press (Err NoRoom) work table h k s = (s.0, s.1, long_as work table h k s.2)
+    told-long-press (Err (Refused k' i)) work table h k s = (s.0 ∙ press_as, s.1)
+    told-long-press (Ok (n, m)) work table h k s = s ∙ press_as
 
 -- ---- answers
 
 pub told-few : (r : Call) (o : Outcome) (out left : Bytes) → Told r o out left → FewIn r
-told-few NoRoom o out left h = tt
-told-few (Refused k i) o out left h = h.1
-told-few (Written n) o out left h = tt
+told-few (Err NoRoom) o out left h = tt
+told-few (Err (Refused k i)) o out left h = h.1
+told-few (Ok n) o out left h = tt
 
 module _ (t l : Bytes) where
   pub answers : (r : Call) (o : Outcome) (out left : Bytes) → Told r o out left → seen (answer_by r t l) left ≡ with_place t l (delivered o out)
   unfolding with_place refusing spoiled_in
-  answers NoRoom o out left h = absurd h
-  answers (Refused k i) o out left h = ap (with_place t l) h.0
-  answers (Written n) o out left h = ap (with_place t l) h
+  answers (Err NoRoom) o out left h = absurd h
+  answers (Err (Refused k i)) o out left h = ap (with_place t l) h.0
+  answers (Ok n) o out left h = ap (with_place t l) h
 
 -- a refusal, in any buffer
 rebuffer : Bytes → Result → Result
@@ -186,9 +185,9 @@ never k e = let n : eqb (number_of k) 0 ≡ true = rw e in impossible (let f = n
 -- ---- where 17 is due, if nothing is refused before
 
 abbrev pub judged_by : Call → Call
-judged_by NoRoom = Refused LongUndo 0
-judged_by (Refused k i) = Refused k i
-judged_by (Written n) = Refused LongUndo 0
+judged_by (Err NoRoom) = Err (Refused LongUndo 0)
+judged_by (Err (Refused k i)) = Err (Refused k i)
+judged_by (Ok n) = Err (Refused LongUndo 0)
 
 module _ (t l : Bytes) (b : ℕ) where
   pub judges : (r : Call) (out left : Bytes) → length out ≡ max_tuple → Told r (update t l b) out left → Refuses (judged_by r) (long_by (came_of t l b))
@@ -199,42 +198,42 @@ module _ (t l : Bytes) (b : ℕ) where
       told r h = subst (λ (o : Outcome). Told r o out left) (update-came t l b) h
 
       go : (c : Came) → came_of t l b ≡ c → (r : Call) → Told r (update_by c) out left → Refuses (judged_by r) (long_by c)
-      go c q NoRoom h = absurd h
-      go (stops k' i') q (Refused k i) h = (λ o. ap (rebuffer o) h.0, h.1)
-      go (stops k' i') q (Written n) h = never k' (sym (ap (λ (r : Result). r.number) h))
-      go (makes u) q (Refused k i) h =
+      go c q (Err NoRoom) h = absurd h
+      go (stops k' i') q (Err (Refused k i)) h = (λ o. ap (rebuffer o) h.0, h.1)
+      go (stops k' i') q (Ok n) h = never k' (sym (ap (λ (r : Result). r.number) h))
+      go (makes u) q (Err (Refused k i)) h =
           let f : length (plain u) ≤ length out = let m = made-short t l b q in omega arith in
           never k (ap (λ (r : Result). r.number) (rw (le-leb (length (plain u)) (length out) f) at h.0))
-      go (makes u) q (Written n) h = (λ o. refl, omega arith)
+      go (makes u) q (Ok n) h = (λ o. refl, omega arith)
 
   pub answers-long : (r : Call) (o : Outcome) (out left : Bytes) → left ≡ out → o ≡ long_by (came_of t l b) → Refuses r (long_by (came_of t l b)) → seen (answer_by r t l) left ≡ with_place t l (delivered o out)
   unfolding with_place refusing spoiled_in
-  answers-long NoRoom o out left e f h = absurd h
-  answers-long (Refused k i) o out left e f h = rw (e, f) (ap (with_place t l) (h.0 out))
-  answers-long (Written n) o out left e f h = absurd h
+  answers-long (Err NoRoom) o out left e f h = absurd h
+  answers-long (Err (Refused k i)) o out left e f h = rw (e, f) (ap (with_place t l) (h.0 out))
+  answers-long (Ok n) o out left e f h = absurd h
 
   pub refuses_few : (r : Call) (o : Outcome) → Refuses r o → FewIn r
-  refuses_few NoRoom o h = tt
-  refuses_few (Refused k i) o h = h.1
-  refuses_few (Written n) o h = tt
+  refuses_few (Err NoRoom) o h = tt
+  refuses_few (Err (Refused k i)) o h = h.1
+  refuses_few (Ok n) o h = tt
 
   module _ (out un : Bytes) where
     pub press-both : (n m : ℕ) (left undone : Bytes) → both_written n m left undone ≡ pressed (press t l b) out un
-        → press_seen (press_answer_by (answer_by (Written n) t l) m) left undone ≡ press_call t l b out un
+        → press_seen (press_answer_by (answer_by (Ok n) t l) m) left undone ≡ press_call t l b out un
     unfolding press_call placed spoiled_in
     press-both n m left undone h = ap (placed t l) h
 
     pub press-declined : (k : Refusal) (i : ℕ) (left undone : Bytes) → declining k i left undone ≡ pressed (press t l b) out un
-        → press_seen (press_answer_by (answer_by (Refused k i) t l) 0) left undone ≡ press_call t l b out un
+        → press_seen (press_answer_by (answer_by (Err (Refused k i)) t l) 0) left undone ≡ press_call t l b out un
     unfolding press_call placed declining
     press-declined k i left undone h = ap (placed t l) h
 
     pub press-long : (r : Call) (left undone : Bytes) → left ≡ out → undone ≡ un → undo t l b ≡ long_by (came_of t l b) → Refuses r (long_by (came_of t l b))
         → press_seen (press_answer_by (answer_by r t l) 0) left undone ≡ press_call t l b out un
     unfolding declining pressed pressing press delivered refusing redecline
-    press-long NoRoom left undone e f g h = absurd h
-    press-long (Written n) left undone e f g h = absurd h
-    press-long (Refused k i) left undone e f g h =
+    press-long (Err NoRoom) left undone e f g h = absurd h
+    press-long (Ok n) left undone e f g h = absurd h
+    press-long (Err (Refused k i)) left undone e f g h =
         press-declined k i left undone (rw (e, f) (go (came_of t l b) (h.0 []) ∙ ap (λ (o : Outcome). pressed (pressing o (long_by (came_of t l b))) out un) (sym (update-came t l b))
         ∙ ap (λ (o : Outcome). pressed (pressing (update t l b) o) out un) (sym g)))
       where
@@ -263,7 +262,7 @@ rebased {c} {l} {work} {spare} {spare'} {base} {n} {first} {k} {at} {i} R one {r
       (let a = s.0 in let b = s.1.1 in omega arith, s.1.1),
     )
 
-pub long-tuple : (t l : Bytes) (b : ℕ) (out : Bytes) → max_tuple < length t → Told (Refused BadTuple 0) (update t l b) out out
+pub long-tuple : (t l : Bytes) (b : ℕ) (out : Bytes) → max_tuple < length t → Told (Err (Refused BadTuple 0)) (update t l b) out out
 unfolding comes_to fields_of delivered
 long-tuple t l b out h = (sym (ap (λ (o : Outcome). delivered o out) (update-came t l b) ∙ rw (lt-leb (length t) max_tuple h)), omega arith)
 

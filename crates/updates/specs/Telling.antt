@@ -1,5 +1,5 @@
 -- Inner: what a call comes to, in arrays of some room.
-use Rattle.std.specs.Prelude.{ℕ, ◌≤◌, ◌≡◌}
+use Rattle.std.specs.Prelude.{ℕ, ◌≤◌, ◌≡◌, Ok, Err, Result}
 use Rattle.msgpack_first_bytes.specs.Bytes.{Bytes}
 use Rattle.msgpack_values.specs.Spoiled.{no_place}
 use Rattle.tuples.specs.Limits.{max_operations}
@@ -12,14 +12,15 @@ use Rattle.tuples.specs.declared.PressAnswer.{PressAnswer}
 use Rattle.tuples.specs.declared.Refusal.TheVariants.{TooLarge}
 use Rattle.update_answers.specs.Seen.{refusal_of, answer_at}
 use Rattle.update_running.specs.Carrying.{Came, comes_to, rest_of}
-use Rattle.update_delivering.specs.Delivering.{long_by, written, both_written}
-use Rattle.update_delivering.specs.declared.Tried.{Tried}
-use Rattle.update_delivering.specs.declared.Tried.TheVariants.{NoRoom as NotTried, Moved, Refused as TriedRefused, Written as TriedWritten}
-use Rattle.update_delivering.specs.declared.Pressed.{Pressed}
-use Rattle.update_delivering.specs.declared.Pressed.TheVariants.{NoRoom as NoPress, Refused as Declined, Written as Both}
+use Rattle.update_delivering.specs.Delivering.{long_by, written, both_written, Tried, Pressed}
 use Rattle.updates.specs.declared.Front.{Front}
-use Rattle.updates.specs.declared.Call.{Call}
-use Rattle.updates.specs.declared.Call.TheVariants.{NoRoom, Refused, Written}
+use Rattle.update_delivering.specs.declared.Failed.TheVariants.{NoRoom, Refused}
+use Rattle.update_delivering.specs.declared.Unwritten.TheVariants.{Moved, NoRoom as NoRoomYet, Refused as RefusedYet}
+use Rattle.update_delivering.specs.declared.Failed.{Failed}
+
+-- the length written, or why nothing is
+abbrev pub Call : Type 0
+Call = Result ℕ Failed
 
 -- what the front of a list tells: the operations from its place on are the list's
 abbrev pub Fronts : ℕ → Bytes → Front → Type 0
@@ -30,57 +31,57 @@ abbrev pub came_of : Bytes → Bytes → ℕ → Came
 came_of t l base = comes_to 0 (fields_of t) (operations_of base l)
 
 abbrev pub call_of : Tried → Call
-call_of NotTried = NoRoom
-call_of (Moved n at i) = NoRoom
-call_of (TriedRefused k i) = Refused k i
-call_of (TriedWritten n) = Written n
+call_of (Err NoRoomYet) = Err NoRoom
+call_of (Err (Moved n at i)) = Err NoRoom
+call_of (Err (RefusedYet k i)) = Err (Refused k i)
+call_of (Ok n) = Ok n
 
 -- what is due is told; or nothing is written, and more room is needed
 abbrev pub Tells : Call → Outcome → Bytes → Bytes → Type 0
-Tells NoRoom o out left = left ≡ out
-Tells (Refused k i) o out left = (refusing k i left ≡ delivered o out) × (i ≤ max_operations)
-Tells (Written n) o out left = written n left ≡ delivered o out
+Tells (Err NoRoom) o out left = left ≡ out
+Tells (Err (Refused k i)) o out left = (refusing k i left ≡ delivered o out) × (i ≤ max_operations)
+Tells (Ok n) o out left = written n left ≡ delivered o out
 
 -- what is due is told, in any case
 abbrev pub Told : Call → Outcome → Bytes → Bytes → Type 0
-Told NoRoom o out left = ⊥
-Told (Refused k i) o out left = (refusing k i left ≡ delivered o out) × (i ≤ max_operations)
-Told (Written n) o out left = written n left ≡ delivered o out
+Told (Err NoRoom) o out left = ⊥
+Told (Err (Refused k i)) o out left = (refusing k i left ≡ delivered o out) × (i ≤ max_operations)
+Told (Ok n) o out left = written n left ≡ delivered o out
 
 -- of an undo list: .. or nothing is written, and 17 is due where nothing is refused before
 abbrev pub ToldOrLong : Call → Outcome → Came → Bytes → Bytes → Type 0
-ToldOrLong NoRoom o c out left = (left ≡ out) × (o ≡ long_by c)
-ToldOrLong (Refused k i) o c out left = (refusing k i left ≡ delivered o out) × (i ≤ max_operations)
-ToldOrLong (Written n) o c out left = written n left ≡ delivered o out
+ToldOrLong (Err NoRoom) o c out left = (left ≡ out) × (o ≡ long_by c)
+ToldOrLong (Err (Refused k i)) o c out left = (refusing k i left ≡ delivered o out) × (i ≤ max_operations)
+ToldOrLong (Ok n) o c out left = written n left ≡ delivered o out
 
 -- the same of a press
 abbrev pub PressTells : Pressed → Pressing → Bytes → Bytes → Bytes → Bytes → Type 0
-PressTells NoPress p out left un undone = (left ≡ out) × (undone ≡ un)
-PressTells (Declined k i) p out left un undone = (declining k i left undone ≡ pressed p out un) × (i ≤ max_operations)
-PressTells (Both n m) p out left un undone = both_written n m left undone ≡ pressed p out un
+PressTells (Err NoRoom) p out left un undone = (left ≡ out) × (undone ≡ un)
+PressTells (Err (Refused k i)) p out left un undone = (declining k i left undone ≡ pressed p out un) × (i ≤ max_operations)
+PressTells (Ok (n, m)) p out left un undone = both_written n m left undone ≡ pressed p out un
 
 abbrev pub PressToldOrLong : Pressed → Pressing → Outcome → Came → Bytes → Bytes → Bytes → Bytes → Type 0
-PressToldOrLong NoPress p o c out left un undone = (left ≡ out) × (undone ≡ un) × (o ≡ long_by c)
-PressToldOrLong (Declined k i) p o c out left un undone = (declining k i left undone ≡ pressed p out un) × (i ≤ max_operations)
-PressToldOrLong (Both n m) p o c out left un undone = both_written n m left undone ≡ pressed p out un
+PressToldOrLong (Err NoRoom) p o c out left un undone = (left ≡ out) × (undone ≡ un) × (o ≡ long_by c)
+PressToldOrLong (Err (Refused k i)) p o c out left un undone = (declining k i left undone ≡ pressed p out un) × (i ≤ max_operations)
+PressToldOrLong (Ok (n, m)) p o c out left un undone = both_written n m left undone ≡ pressed p out un
 
 -- a refusal, by its number
 abbrev pub Refuses : Call → Outcome → Type 0
-Refuses NoRoom o = ⊥
-Refuses (Refused k i) o = ((out : Bytes) → refusing k i out ≡ delivered o out) × (i ≤ max_operations)
-Refuses (Written n) o = ⊥
+Refuses (Err NoRoom) o = ⊥
+Refuses (Err (Refused k i)) o = ((out : Bytes) → refusing k i out ≡ delivered o out) × (i ≤ max_operations)
+Refuses (Ok n) o = ⊥
 
 -- ---- answers
 
 abbrev pub answer_by : Call → Bytes → Bytes → Answer
-answer_by NoRoom t l = refusal_of TooLarge 0
-answer_by (Refused k i) t l = answer_at (spoiled_in (number_of k) t l) (refusal_of k i)
-answer_by (Written n) t l = record { number = 0; operation = 0; length = n; place = no_place }
+answer_by (Err NoRoom) t l = refusal_of TooLarge 0
+answer_by (Err (Refused k i)) t l = answer_at (spoiled_in (number_of k) t l) (refusal_of k i)
+answer_by (Ok n) t l = record { number = 0; operation = 0; length = n; place = no_place }
 
 abbrev pub FewIn : Call → Type 0
-FewIn NoRoom = Unit {0}
-FewIn (Refused k i) = i ≤ max_operations
-FewIn (Written n) = Unit {0}
+FewIn (Err NoRoom) = Unit {0}
+FewIn (Err (Refused k i)) = i ≤ max_operations
+FewIn (Ok n) = Unit {0}
 
 abbrev pub press_answer_by : Answer → ℕ → PressAnswer
 press_answer_by a n = record { number = a.number; operation = a.operation; length = a.length; undo_length = n; place = a.place }

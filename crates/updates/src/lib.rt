@@ -13,8 +13,7 @@ ghost use Rattle.updates.specs.Telling.{Fronts, came_of, call_of, Tells, Told, T
 
 use msgpack_values::NO_PLACE;
 use tuples::{Answer, MAX_OPERATIONS, MAX_TUPLE, PressAnswer, Refusal};
-use update_delivering::{Pressed, Tried};
-use update_operations::Listed;
+use update_delivering::{Failed, Pressed, Tried, Unwritten};
 use update_running::{TABLE_ROOM, WORK_ROOM};
 
 // Where a list has at most so many bytes, the short arrays are tried.
@@ -33,19 +32,14 @@ struct Front {
 }
 
 // What a call comes to: the arrays have no room; a refusal; the length written.
-#[derive(Clone, Copy)]
-enum Call {
-    NoRoom,
-    Refused(Refusal, usize),
-    Written(usize),
-}
+type Call = Result<usize, Failed>;
 
 fn front_of(list: &[u8], base: u64) -> Front
     ensures { Fronts base list.now result }
 {
     match update_operations::front_of(list, base) {
-        Listed::Good(count, start) => Front { count, start },
-        Listed::Bad => Front {
+        Some((count, start)) => Front { count, start },
+        None => Front {
             count: MAX_OPERATIONS + 1,
             start: 0,
         },
@@ -56,10 +50,10 @@ fn call_of(tried: Tried) -> Call
     ensures { result ≡ call_of tried }
 {
     match tried {
-        Tried::NoRoom => Call::NoRoom,
-        Tried::Moved(_, _, _) => Call::NoRoom,
-        Tried::Refused(refusal, i) => Call::Refused(refusal, i),
-        Tried::Written(length) => Call::Written(length),
+        Err(Unwritten::NoRoom) => Err(Failed::NoRoom),
+        Err(Unwritten::Moved(_, _, _)) => Err(Failed::NoRoom),
+        Err(Unwritten::Refused(refusal, i)) => Err(Failed::Refused(refusal, i)),
+        Ok(length) => Ok(length),
     }
 }
 
@@ -106,7 +100,7 @@ fn update_long(
     ensures { Told result (update tuple.now list.now base) out.old out.new }
 {
     if MAX_TUPLE < tuple.len() {
-        return Call::Refused(Refusal::BadTuple, 0);
+        return Err(Failed::Refused(Refusal::BadTuple, 0));
     }
     let mut one = [0u8; MAX_TUPLE];
     let mut other = [0u8; MAX_TUPLE];
@@ -126,16 +120,16 @@ fn update_long(
             &mut other,
             out,
         ) {
-            Tried::NoRoom => {
-                return Call::NoRoom;
+            Err(Unwritten::NoRoom) => {
+                return Err(Failed::NoRoom);
             }
-            Tried::Refused(refusal, j) => {
-                return Call::Refused(refusal, j);
+            Err(Unwritten::Refused(refusal, j)) => {
+                return Err(Failed::Refused(refusal, j));
             }
-            Tried::Written(n) => {
-                return Call::Written(n);
+            Ok(n) => {
+                return Ok(n);
             }
-            Tried::Moved(n, place, j) => {
+            Err(Unwritten::Moved(n, place, j)) => {
                 length = msgpack_writing::write_bytes(&mut one, 0, &other[..n]);
                 at = place;
                 i = j;
@@ -151,9 +145,9 @@ fn update_more(tuple: &[u8], list: &[u8], base: u64, front: Front, out: &mut [u8
     let mut table = [0u32; TABLE_ROOM];
     let mut work = [0u8; MAX_TUPLE];
     match update_in(tuple, list, base, front, &mut table, &mut work, out) {
-        Call::Refused(refusal, i) => Call::Refused(refusal, i),
-        Call::Written(length) => Call::Written(length),
-        Call::NoRoom => update_long(tuple, list, base, front, &mut table, &mut work, out),
+        Err(Failed::Refused(refusal, i)) => Err(Failed::Refused(refusal, i)),
+        Ok(length) => Ok(length),
+        Err(Failed::NoRoom) => update_long(tuple, list, base, front, &mut table, &mut work, out),
     }
 }
 
@@ -168,9 +162,9 @@ fn updated(tuple: &[u8], list: &[u8], base: u64, out: &mut [u8]) -> Call
     let mut table = [0u32; SHORT_TABLE];
     let mut work = [0u8; SHORT_WORK];
     match update_in(tuple, list, base, front, &mut table, &mut work, out) {
-        Call::Refused(refusal, i) => Call::Refused(refusal, i),
-        Call::Written(length) => Call::Written(length),
-        Call::NoRoom => update_more(tuple, list, base, front, out),
+        Err(Failed::Refused(refusal, i)) => Err(Failed::Refused(refusal, i)),
+        Ok(length) => Ok(length),
+        Err(Failed::NoRoom) => update_more(tuple, list, base, front, out),
     }
 }
 
@@ -180,18 +174,18 @@ fn answer_of(call: Call, tuple: &[u8], list: &[u8]) -> Answer
     ensures { result ≡ answer_by call tuple.now list.now }
 {
     match call {
-        Call::Written(length) => Answer {
+        Ok(length) => Answer {
             number: 0,
             operation: 0,
             length,
             place: NO_PLACE,
         },
-        Call::Refused(refusal, i) => update_answers::with_place(
+        Err(Failed::Refused(refusal, i)) => update_answers::with_place(
             update_answers::refused(refusal, i as u32),
             tuple,
             list,
         ),
-        Call::NoRoom => update_answers::refused(Refusal::TooLarge, 0),
+        Err(Failed::NoRoom) => update_answers::refused(Refusal::TooLarge, 0),
     }
 }
 
@@ -260,9 +254,9 @@ fn undo_more(tuple: &[u8], list: &[u8], base: u64, front: Front, out: &mut [u8])
     let mut table = [0u32; TABLE_ROOM];
     let mut work = [0u8; MAX_TUPLE];
     match undo_in(tuple, list, base, front, &mut table, &mut work, out) {
-        Call::Refused(refusal, i) => Call::Refused(refusal, i),
-        Call::Written(length) => Call::Written(length),
-        Call::NoRoom => undo_long(tuple, list, base, front, &mut table, out),
+        Err(Failed::Refused(refusal, i)) => Err(Failed::Refused(refusal, i)),
+        Ok(length) => Ok(length),
+        Err(Failed::NoRoom) => undo_long(tuple, list, base, front, &mut table, out),
     }
 }
 
@@ -277,9 +271,9 @@ fn undone(tuple: &[u8], list: &[u8], base: u64, out: &mut [u8]) -> Call
     let mut table = [0u32; SHORT_TABLE];
     let mut work = [0u8; SHORT_WORK];
     match undo_in(tuple, list, base, front, &mut table, &mut work, out) {
-        Call::Refused(refusal, i) => Call::Refused(refusal, i),
-        Call::Written(length) => Call::Written(length),
-        Call::NoRoom => undo_more(tuple, list, base, front, out),
+        Err(Failed::Refused(refusal, i)) => Err(Failed::Refused(refusal, i)),
+        Ok(length) => Ok(length),
+        Err(Failed::NoRoom) => undo_more(tuple, list, base, front, out),
     }
 }
 
@@ -289,9 +283,9 @@ fn judged(tuple: &[u8], list: &[u8], base: u64) -> Call
 {
     let mut out = [0u8; MAX_TUPLE];
     match updated(tuple, list, base, &mut out) {
-        Call::Refused(refusal, i) => Call::Refused(refusal, i),
-        Call::Written(_) => Call::Refused(Refusal::LongUndo, 0),
-        Call::NoRoom => Call::Refused(Refusal::LongUndo, 0),
+        Err(Failed::Refused(refusal, i)) => Err(Failed::Refused(refusal, i)),
+        Ok(_) => Err(Failed::Refused(Refusal::LongUndo, 0)),
+        Err(Failed::NoRoom) => Err(Failed::Refused(Refusal::LongUndo, 0)),
     }
 }
 
@@ -300,9 +294,9 @@ pub fn undo(tuple: &[u8], list: &[u8], index_base: u64, out: &mut [u8]) -> Answe
     ensures { seen result out.new ≡ undo_call tuple.now list.now index_base out.old }
 {
     match undone(tuple, list, index_base, out) {
-        Call::Written(length) => answer_of(Call::Written(length), tuple, list),
-        Call::Refused(refusal, i) => answer_of(Call::Refused(refusal, i), tuple, list),
-        Call::NoRoom => answer_of(judged(tuple, list, index_base), tuple, list),
+        Ok(length) => answer_of(Ok(length), tuple, list),
+        Err(Failed::Refused(refusal, i)) => answer_of(Err(Failed::Refused(refusal, i)), tuple, list),
+        Err(Failed::NoRoom) => answer_of(judged(tuple, list, index_base), tuple, list),
     }
 }
 
@@ -361,9 +355,9 @@ fn press_more(
         out,
         back,
     ) {
-        Pressed::Refused(refusal, i) => Pressed::Refused(refusal, i),
-        Pressed::Written(length, undo_length) => Pressed::Written(length, undo_length),
-        Pressed::NoRoom => press_long(tuple, list, base, front, &mut table, out, back),
+        Err(Failed::Refused(refusal, i)) => Err(Failed::Refused(refusal, i)),
+        Ok((length, undo_length)) => Ok((length, undo_length)),
+        Err(Failed::NoRoom) => press_long(tuple, list, base, front, &mut table, out, back),
     }
 }
 
@@ -389,9 +383,9 @@ fn pressed(tuple: &[u8], list: &[u8], base: u64, out: &mut [u8], back: &mut [u8]
         out,
         back,
     ) {
-        Pressed::Refused(refusal, i) => Pressed::Refused(refusal, i),
-        Pressed::Written(length, undo_length) => Pressed::Written(length, undo_length),
-        Pressed::NoRoom => press_more(tuple, list, base, front, out, back),
+        Err(Failed::Refused(refusal, i)) => Err(Failed::Refused(refusal, i)),
+        Ok((length, undo_length)) => Ok((length, undo_length)),
+        Err(Failed::NoRoom) => press_more(tuple, list, base, front, out, back),
     }
 }
 
@@ -420,14 +414,14 @@ pub fn press(
         ≡ press_call tuple.now list.now index_base out.old back.old }
 {
     match pressed(tuple, list, index_base, out, back) {
-        Pressed::Written(length, undo_length) => press_answer(
-            answer_of(Call::Written(length), tuple, list),
+        Ok((length, undo_length)) => press_answer(
+            answer_of(Ok(length), tuple, list),
             undo_length,
         ),
-        Pressed::Refused(refusal, i) => press_answer(
-            answer_of(Call::Refused(refusal, i), tuple, list),
+        Err(Failed::Refused(refusal, i)) => press_answer(
+            answer_of(Err(Failed::Refused(refusal, i)), tuple, list),
             0,
         ),
-        Pressed::NoRoom => press_answer(answer_of(judged(tuple, list, index_base), tuple, list), 0),
+        Err(Failed::NoRoom) => press_answer(answer_of(judged(tuple, list, index_base), tuple, list), 0),
     }
 }

@@ -6,22 +6,22 @@ use Rattle.frame_reading.proofs.read_size.Goals as goal
 
 pub returns-then-n-eq0 : goal.returns-then-n-eq0
 unfolding size_of
-returns-then-n-eq0 c = let n = c.before in rw (number-front _ n.in-Is.is n.unsigned_at.ensures) (size_none _ c.if-n-eq0.true)
+returns-then-n-eq0 c = let n = c.before in rw (number-front _ n.in-Ok.is n.unsigned_at.ensures) (size_none _ c.if-n-eq0.true)
 
 pub returns-then-n : goal.returns-then-n
 unfolding size_of
 returns-then-n c =
     let n = c.before.before in
-    rw (number-front _ n.in-Is.is n.unsigned_at.ensures) (size_large _ _ c.if-n.true)
+    rw (number-front _ n.in-Ok.is n.unsigned_at.ensures) (size_large _ _ c.if-n.true)
 
 pub returns-else-n : goal.returns-else-n
 unfolding size_of
 returns-else-n c =
     let n = c.before.before in
-    rw (number-front _ n.in-Is.is n.unsigned_at.ensures) (size_is _ _ c.if-n-eq0.false c.if-n.false)
+    rw (number-front _ n.in-Ok.is n.unsigned_at.ensures) (size_is _ _ c.if-n-eq0.false c.if-n.false)
 
-pub returns-in-Cut : goal.returns-in-Cut
-returns-in-Cut c = unfold size_of size_by in rw (number-front _ c.in-Cut.is c.unsigned_at.ensures)
+pub returns-in-Err-Cut : goal.returns-in-Err-Cut
+returns-in-Err-Cut c = unfold size_of size_by in rw (number-front _ c.in-Err-Cut.is c.unsigned_at.ensures)
 
-pub returns-in-Other : goal.returns-in-Other
-returns-in-Other c = unfold size_of size_by in rw (number-front _ c.in-Other.is c.unsigned_at.ensures)
+pub returns-in-Err-Other : goal.returns-in-Err-Other
+returns-in-Err-Other c = unfold size_of size_by in rw (number-front _ c.in-Err-Other.is c.unsigned_at.ensures)

@@ -3,14 +3,14 @@ use Rattle.frames.specs.Held.{as_number, number_or_bytes, value_held, suits}
 use Rattle.frames.proofs.Front.{number-front}
 use Rattle.frame_rules.proofs.at_most.Goals as goal
 
-pub returns-in-Is : goal.returns-in-Is
+pub returns-in-Ok : goal.returns-in-Ok
 unfolding suits value_held number_or_bytes as_number
-returns-in-Is c = rw (number-front _ c.in-Is.is c.unsigned_at.ensures)
+returns-in-Ok c = rw (number-front _ c.in-Ok.is c.unsigned_at.ensures)
 
-pub returns-in-Cut : goal.returns-in-Cut
+pub returns-in-Err-Cut : goal.returns-in-Err-Cut
 unfolding suits value_held number_or_bytes as_number
-returns-in-Cut c = rw (number-front _ c.in-Cut.is c.unsigned_at.ensures)
+returns-in-Err-Cut c = rw (number-front _ c.in-Err-Cut.is c.unsigned_at.ensures)
 
-pub returns-in-Other : goal.returns-in-Other
+pub returns-in-Err-Other : goal.returns-in-Err-Other
 unfolding suits value_held number_or_bytes as_number
-returns-in-Other c = rw (number-front _ c.in-Other.is c.unsigned_at.ensures)
+returns-in-Err-Other c = rw (number-front _ c.in-Err-Other.is c.unsigned_at.ensures)

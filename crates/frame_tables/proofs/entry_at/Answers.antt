@@ -13,14 +13,14 @@ pub returns-then-key-gt-MAX_KEY : goal.returns-then-key-gt-MAX_KEY
 returns-then-key-gt-MAX_KEY c =
     let b = c.before in
     let a = b.args in
-    large_key a.s.now a.at _ _ (sym c.in-Is.is ∙ b.unsigned_at.ensures) c.if-key-gt-MAX_KEY.true
+    large_key a.s.now a.at _ _ (sym c.in-Some.is ∙ b.unsigned_at.ensures) c.if-key-gt-MAX_KEY.true
 
 pub returns-in_default-read_value : goal.returns-in_default-read_value
 returns-in_default-read_value c =
     let d = c.before.before in
     let b = d.before in
     let a = b.args in
-    no_value a.s.now a.at _ _ (sym d.in-Is.is ∙ b.unsigned_at.ensures) _ d.if-key-gt-MAX_KEY.false
+    no_value a.s.now a.at _ _ (sym d.in-Some.is ∙ b.unsigned_at.ensures) _ d.if-key-gt-MAX_KEY.false
     (sym c.in_default-read_value.is ∙ c.read_value.ensures)
 
 pub returns : goal.returns
@@ -28,8 +28,8 @@ returns c =
     let d = c.before.before in
     let b = d.before in
     let a = b.args in
-    one_entry a.s.now a.at _ _ (sym d.in-Is.is ∙ b.unsigned_at.ensures) _ d.if-key-gt-MAX_KEY.false
-    (sym c.in-Whole.is ∙ c.read_value.ensures)
+    one_entry a.s.now a.at _ _ (sym d.in-Some.is ∙ b.unsigned_at.ensures) _ d.if-key-gt-MAX_KEY.false
+    (sym c.in-Ok.is ∙ c.read_value.ensures)
 
 pub overflow_sub-result : goal.overflow_sub-result
-overflow_sub-result c = ends_after _ _ _ (sym c.in-Whole.is ∙ c.read_value.ensures)
+overflow_sub-result c = ends_after _ _ _ (sym c.in-Ok.is ∙ c.read_value.ensures)

@@ -5,19 +5,19 @@ use Rattle.frame_tables.specs.Tables.{table, tabled_on}
 use Rattle.frame_tables.proofs.Entries.{no_map, a-map}
 use Rattle.frame_tables.proofs.table_at.Goals as goal
 
-pub returns-in-Is : goal.returns-in-Is
-returns-in-Is c =
+pub returns-in-Some : goal.returns-in-Some
+returns-in-Some c =
     let k = c.before.before.before in
     let b = k.before in
     let a = b.args in
     c.table_of.ensures
-    ∙ sym (ap (tabled_on (table 0 a.starts.now a.lengths.now)) (a-map held_depth a.s.now a.at _ _ (sym k.in-Is.is ∙ b.header_at.ensures)))
+    ∙ sym (ap (tabled_on (table 0 a.starts.now a.lengths.now)) (a-map held_depth a.s.now a.at _ _ (sym k.in-Some.is ∙ b.header_at.ensures)))
 
-pub returns-in-Other : goal.returns-in-Other
+pub returns-in-None : goal.returns-in-None
 unfolding tabled_on
-returns-in-Other c =
+returns-in-None c =
     let o = c.before.before.before in
     let b = o.before in
     let a = b.args in
     c.no_table.ensures
-    ∙ sym (ap (tabled_on (table 0 a.starts.now a.lengths.now)) (no_map held_depth a.s.now a.at (sym o.in-Other.is ∙ b.header_at.ensures)))
+    ∙ sym (ap (tabled_on (table 0 a.starts.now a.lengths.now)) (no_map held_depth a.s.now a.at (sym o.in-None.is ∙ b.header_at.ensures)))

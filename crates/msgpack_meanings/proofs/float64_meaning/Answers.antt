@@ -2,10 +2,10 @@
 use Rattle.msgpack_meanings.specs.Meaning.{of_float64}
 use Rattle.msgpack_meanings.proofs.float64_meaning.Goals as goal
 
-pub returns-in-Is : goal.returns-in-Is
+pub returns-in-Some : goal.returns-in-Some
 unfolding of_float64
-returns-in-Is c = rw (← c.number_at.ensures.0, c.in-Is.is) c.float64.ensures
+returns-in-Some c = rw (← c.number_at.ensures.0, c.in-Some.is) c.float64.ensures
 
-pub returns-in-Missing : goal.returns-in-Missing
+pub returns-in-None : goal.returns-in-None
 unfolding of_float64
-returns-in-Missing c = rw (← c.number_at.ensures.0, c.in-Missing.is)
+returns-in-None c = rw (← c.number_at.ensures.0, c.in-None.is)

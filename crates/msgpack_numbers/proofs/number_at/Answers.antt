@@ -1,4 +1,5 @@
 -- `number_at` is the definition `number_at`. The loop's invariant: n is the number of the first i bytes.
+use Rattle.std.specs.Prelude.{Some}
 use native.Mathlib.Omega.{arith}
 use borrow.Author.Tests.{le-leb, lt-leb}
 use Prim.Native.Nat.{◌+◌, ◌-◌, ◌*◌, ◌^◌, ◌<◌, ◌≤◌}
@@ -6,7 +7,6 @@ use mathlib.Core.Path.{◌≡◌, refl, ap}
 use mathlib.Core.Bool.{and-false}
 use lib.ListN.{length, take, drop}
 use Rattle.msgpack_numbers.specs.Number.{number}
-use Rattle.msgpack_numbers.specs.declared.Number.TheVariants.{Is}
 use Rattle.msgpack_numbers.proofs.Big.{number-next, grow, small}
 use Rattle.msgpack_numbers.proofs.number_at.Goals as goal
 
@@ -22,7 +22,7 @@ returns c =
     let l = c.loop-i in
     let a = c.args in
     let e : l.i ≡ a.width = omega arith in
-    (simp (le-leb a.width 8 (omega arith), le-leb (a.at + a.width) (length a.s.now) (omega arith)) (ap Is (rw e at l.invariant.1)), rw e at l.invariant.2)
+    (simp (le-leb a.width 8 (omega arith), le-leb (a.at + a.width) (length a.s.now) (omega arith)) (ap Some (rw e at l.invariant.1)), rw e at l.invariant.2)
 
 pub returns-then-width-gt8 : goal.returns-then-width-gt8
 returns-then-width-gt8 c = (simp (lt-leb _ _ c.if-width-gt8.true), tt)

@@ -6,7 +6,6 @@ use mathlib.Core.Path.{◌≡◌, refl, ap}
 use mathlib.Core.Bool.{and-false}
 use lib.ListN.{length, take, drop}
 use Rattle.msgpack_numbers.specs.Number.{number}
-use Rattle.msgpack_numbers.specs.declared.Number.TheVariants.{Is}
 use Rattle.msgpack_numbers.proofs.Big.{number-next, grow, small}
 use Rattle.msgpack_numbers.proofs.number_at.Given as goal
 

@@ -24,8 +24,8 @@ returns-in_default c = unfold due_in in rw (at-start (goal.at.returns-in_default
 
 pub returns-then-s-at-2 : goal.returns-then-s-at-2
 returns-then-s-at-2 c = let d = c in let a = d.args in
-    rw (at-start (goal.at.returns-then-s-at-2 c).After-scalar_start, d.in-Here.is) (Laws.due-cut a.s.now a.at _ _ c.if-s-at-2.true (omega arith))
+    rw (at-start (goal.at.returns-then-s-at-2 c).After-scalar_start, d.in-Some.is) (Laws.due-cut a.s.now a.at _ _ c.if-s-at-2.true (omega arith))
 
 pub returns : goal.returns
 returns c = let d = c in let a = d.args in
-    rw (at-start (goal.at.returns c).After-scalar_start, d.in-Here.is) (Laws.due-more a.s.now a.at _ _ c.if-s-at-2.false)
+    rw (at-start (goal.at.returns c).After-scalar_start, d.in-Some.is) (Laws.due-more a.s.now a.at _ _ c.if-s-at-2.false)

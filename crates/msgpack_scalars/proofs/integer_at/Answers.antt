@@ -3,14 +3,14 @@ use Rattle.msgpack_scalars.specs.Integer.{adding, integer}
 use Rattle.msgpack_scalars.proofs.Laws.{adding-shift}
 use Rattle.msgpack_scalars.proofs.integer_at.Goals as goal
 
-pub returns-in-Is : goal.returns-in-Is
+pub returns-in-Ok : goal.returns-in-Ok
 unfolding adding integer
-returns-in-Is c = rw (adding-shift, ← c.unsigned_at.ensures, c.in-Is.is)
+returns-in-Ok c = rw (adding-shift, ← c.unsigned_at.ensures, c.in-Ok.is)
 
-pub returns-in-Cut : goal.returns-in-Cut
+pub returns-in-Err-Cut : goal.returns-in-Err-Cut
 unfolding adding integer
-returns-in-Cut c = rw (adding-shift, ← c.unsigned_at.ensures, c.in-Cut.is)
+returns-in-Err-Cut c = rw (adding-shift, ← c.unsigned_at.ensures, c.in-Err-Cut.is)
 
-pub returns-in-Other : goal.returns-in-Other
+pub returns-in-Err-Other : goal.returns-in-Err-Other
 unfolding adding integer
-returns-in-Other c = rw (adding-shift, ← c.unsigned_at.ensures, c.in-Other.is) c.signed_at.ensures
+returns-in-Err-Other c = rw (adding-shift, ← c.unsigned_at.ensures, c.in-Err-Other.is) c.signed_at.ensures

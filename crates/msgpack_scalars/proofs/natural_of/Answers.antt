@@ -19,4 +19,4 @@ returns-in_default c = let p = c.before in let a = p.args in
 
 pub returns : goal.returns
 returns c = let p = c.before in let a = p.args in
-    natural-more a.s.now a.at a.more _ (omega arith) (sym c.in-Is.is ∙ p.number_at.ensures.0)
+    natural-more a.s.now a.at a.more _ (omega arith) (sym c.in-Some.is ∙ p.number_at.ensures.0)

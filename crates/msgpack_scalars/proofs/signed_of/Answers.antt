@@ -13,11 +13,11 @@ use Rattle.msgpack_scalars.proofs.signed_of.Goals as goal
 
 -- the number, the sign bit, and the bounds of both
 known : (c : After-sign_bit-half) →
-    (let a = c.args in let n = c.in-Is.n in let h = c.sign_bit-half.result in
+    (let a = c.args in let n = c.in-Some.n in let h = c.sign_bit-half.result in
     (n ≡ natural_of a.more (drop a.at a.s.now)) × ((h ≡ 2 ^ (8 * a.more - 1)) × ((n < h + h) × (0 < h))))
 known c =
     let a = c.args in
-    let n = c.in-Is in
+    let n = c.in-Some in
     let e = c.sign_bit-half.ensures in
     let b = n.ensures.1 in
     let d = Laws.doubled a.more (omega arith) in

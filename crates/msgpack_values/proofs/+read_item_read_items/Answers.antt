@@ -1,4 +1,5 @@
 -- `read_item` is one value, `read_items` the values of a container, one after the other. They call each other. Assumes nothing.
+use Rattle.std.specs.Prelude.{Ok, Err}
 use native.Mathlib.Omega.{arith}
 use native.Mathlib.Nat.{add-zero}
 use Prim.Native.Nat.{ℕ, suc, ◌-◌, ◌≤◌}
@@ -6,7 +7,6 @@ use mathlib.Core.Path.{◌≡◌, sym, ap, ◌∙◌}
 use lib.ListN.{drop}
 use Rattle.msgpack_first_bytes.specs.Bytes.{Bytes}
 use Rattle.msgpack_values.specs.Value.{shift, items, value}
-use Rattle.msgpack_values.specs.declared.Read.TheVariants.{Whole, Broken}
 use Rattle.msgpack_values.proofs.Laws as Laws
 use Rattle.msgpack_values.proofs.+read_item_read_items.Goals as goal
 
@@ -16,10 +16,10 @@ module _ (s : Bytes) (at n depth end left : ℕ) (m : ℕ) (f : left ≡ suc m)
   more : shift at (items (value depth) n (drop at s)) ≡ shift end (items (value depth) (suc m) (drop end s))
   more = rw f at i.1
 
-  broken : (p : ℕ) → Broken p ≡ shift end (value depth (drop end s)) → Broken p ≡ shift at (items (value depth) n (drop at s))
+  broken : (p : ℕ) → Err p ≡ shift end (value depth (drop end s)) → Err p ≡ shift at (items (value depth) n (drop at s))
   broken p h = Laws.items-broken (value depth) s end m p h ∙ sym more
 
-  whole : (e : ℕ) → Whole e ≡ shift end (value depth (drop end s))
+  whole : (e : ℕ) → Ok e ≡ shift end (value depth (drop end s))
       → (at ≤ e) × (shift at (items (value depth) n (drop at s)) ≡ shift e (items (value depth) m (drop e s)))
   whole e h =
       let g = Laws.shift-further end e (value depth (drop end s)) h in
@@ -47,4 +47,4 @@ read_items-returns-in-Fails t c =
 
 pub read_items-returns : goal.read_items-returns
 unfolding items
-read_items-returns t c = let l = c.loop-left in let e : l.left ≡ 0 = omega arith in sym (rw e at l.invariant.1 ∙ ap Whole (add-zero l.end))
+read_items-returns t c = let l = c.loop-left in let e : l.left ≡ 0 = omega arith in sym (rw e at l.invariant.1 ∙ ap Ok (add-zero l.end))

@@ -26,7 +26,7 @@ answer c = let p = c.requires in c.long_scalar.ensures ∙ Tokens.long _ _ _ _ p
 pub returns-then-e-eq1 : goal.returns-then-e-eq1
 returns-then-e-eq1 c =
     let p = c.requires in
-    let e = sym c.in-Whole.is ∙ answer (goal.at.returns-then-e-eq1 c).After-long_scalar in
+    let e = sym c.in-Ok.is ∙ answer (goal.at.returns-then-e-eq1 c).After-long_scalar in
     (e, Tokens.headed _ _ _ _ _ p.0 (omega arith) c.if-e-eq1.true e)
 
 pub container_at-requires : goal.container_at-requires
@@ -39,7 +39,7 @@ pub long_scalar-requires : goal.long_scalar-requires
 long_scalar-requires c = requires-it (goal.at.long_scalar-requires c).Else-e-ge-ARRAY
 
 pub returns-else-e-eq1 : goal.returns-else-e-eq1
-returns-else-e-eq1 c = sym c.in-Whole.is ∙ answer (goal.at.returns-else-e-eq1 c).After-long_scalar
+returns-else-e-eq1 c = sym c.in-Ok.is ∙ answer (goal.at.returns-else-e-eq1 c).After-long_scalar
 
-pub returns-in-Broken : goal.returns-in-Broken
-returns-in-Broken c = sym c.in-Broken.is ∙ answer (goal.at.returns-in-Broken c).After-long_scalar
+pub returns-in-Err : goal.returns-in-Err
+returns-in-Err c = sym c.in-Err.is ∙ answer (goal.at.returns-in-Err c).After-long_scalar

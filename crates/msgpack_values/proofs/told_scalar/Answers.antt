@@ -1,10 +1,10 @@
 -- Cut short, or whole; the constants are what is due.
+use Rattle.std.specs.Prelude.{Ok}
 use native.Mathlib.Omega.{arith}
 use Prim.Native.Nat.{ℕ, ◌+◌}
 use mathlib.Core.Path.{◌≡◌, refl}
 use lib.ListN.{drop}
 use Rattle.msgpack_values.specs.Value.{shift, payload}
-use Rattle.msgpack_values.specs.declared.Read.TheVariants.{Whole}
 use Rattle.msgpack_values.proofs.Laws.{payload-short}
 use Rattle.msgpack_values.proofs.Tokens as Tokens
 use Rattle.msgpack_values.proofs.told_scalar.Goals.{Else-s-at}
@@ -12,7 +12,7 @@ use Rattle.msgpack_values.proofs.told_scalar.Goals as goal
 
 -- whole, and ends at n
 module _ (c : Else-s-at) where
-  whole : (n : ℕ) → (let a = c.args in n ≡ a.at + 1 + a.due → Whole n ≡ shift (a.at + 1) (payload a.due (drop (a.at + 1) a.s.now)))
+  whole : (n : ℕ) → (let a = c.args in n ≡ a.at + 1 + a.due → Ok n ≡ shift (a.at + 1) (payload a.due (drop (a.at + 1) a.s.now)))
   whole n e = let a = c.args in Tokens.told-whole a.s.now a.at a.due n e (omega arith)
 
 pub returns-then-due-eq0 : goal.returns-then-due-eq0

@@ -9,7 +9,7 @@ slice_bounds-size_over-end-2 c = let a = c.args in sym (length-take-le a.held a.
 pub overflow_add-stop : goal.overflow_add-stop
 overflow_add-stop c =
     let a = c.args in
-    let l = promised_few (take a.held a.carry.now) a.piece.now (sym c.in-Promises.is ∙ c.size_over.ensures) in
+    let l = promised_few (take a.held a.carry.now) a.piece.now (sym c.in-Ok.is ∙ c.size_over.ensures) in
     omega arith
 
 pub returns-in-Refused : goal.returns-in-Refused
@@ -21,14 +21,14 @@ returns-in-Refused c =
     let e = sym c.in-Refused.is ∙ c.size_over.ensures in
     ((refused-stop b p e, c.refused.ensures ∙ refused-read b p e), carry_is b p a.carry.now l (refused-stop b p e) (refused_settled b p e) c.keep.ensures)
 
-pub returns-in-Promises : goal.returns-in-Promises
-returns-in-Promises c =
+pub returns-in-Ok : goal.returns-in-Ok
+returns-in-Ok c =
     let h = c.requires in
     let a = c.args in
     let p = a.piece.now in
     let b = take a.held a.carry.now in
     let l : a.held ≡ length b = sym (length-take-le a.held a.carry.now h.0) in
-    let e = sym c.in-Promises.is ∙ c.size_over.ensures in (
-      (promised_stop b p e, promised_answer p a.carry.now a.held h.0 h.1 e c.above.ensures c.keep-in-Promises.ensures c.view-frame.ensures c.contents.ensures),
-      carry_is b p a.carry.now l (promised_stop b p e) (rw c.above.ensures (come b p e l) ∙ promised_settled b p e) c.keep-in-Promises.ensures,
+    let e = sym c.in-Ok.is ∙ c.size_over.ensures in (
+      (promised_stop b p e, promised_answer p a.carry.now a.held h.0 h.1 e c.above.ensures c.keep-in-Ok.ensures c.view-frame.ensures c.contents.ensures),
+      carry_is b p a.carry.now l (promised_stop b p e) (rw c.above.ensures (come b p e l) ∙ promised_settled b p e) c.keep-in-Ok.ensures,
     )

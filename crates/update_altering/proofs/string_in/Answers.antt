@@ -1,14 +1,14 @@
 -- By the source.
+use Rattle.std.specs.Prelude.{Option}
 use mathlib.Core.Path.{sym, ap, ◌∙◌}
 use native.Mathlib.Omega.{arith}
 use Rattle.msgpack_first_bytes.specs.Bytes.{Bytes}
 use Rattle.tuples.specs.Decoding.{string}
 use Rattle.update_parts.specs.Part.{span_by}
-use Rattle.update_parts.specs.declared.Span.{Span}
 use Rattle.update_places.proofs.Runs.{from-tuple, from_list, from-work}
 use Rattle.update_altering.proofs.string_in.Goals as goal
 
-abbrev read : Bytes → Span
+abbrev read : Bytes → Option (ℕ × ℕ)
 read s = span_by s (string s)
 
 pub returns-then-at-lt-IN_LIST : goal.returns-then-at-lt-IN_LIST

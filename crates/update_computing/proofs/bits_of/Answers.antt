@@ -10,4 +10,4 @@ returns-in_default c =
 
 pub returns : goal.returns
 returns c =
-    Numbers.bits_is c.args.by c.args.v (bytes_from c.args.tuple.now c.args.list.now c.args.work.now c.args.at c.args.size) c.natural_in.ensures c.in-Is.is c.combine.ensures (omega arith)
+    Numbers.bits_is c.args.by c.args.v (bytes_from c.args.tuple.now c.args.list.now c.args.work.now c.args.at c.args.size) c.natural_in.ensures c.in-Some.is c.combine.ensures (omega arith)

@@ -1,14 +1,14 @@
 -- By the source.
+use Rattle.std.specs.Prelude.{Option}
 use mathlib.Core.Path.{sym, ap, ◌∙◌}
 use native.Mathlib.Omega.{arith}
 use Rattle.msgpack_first_bytes.specs.Bytes.{Bytes}
 use Rattle.tuples.specs.Decoding.{any_integer}
 use Rattle.update_parts.specs.Part.{signed_by}
-use Rattle.update_parts.specs.declared.Signed.{Signed}
 use Rattle.update_places.proofs.Runs.{from-tuple, from_list, from-work}
 use Rattle.update_computing.proofs.integer_in.Goals as goal
 
-abbrev read : Bytes → Signed
+abbrev read : Bytes → Option (Int × ℕ)
 read s = signed_by s (any_integer s)
 
 pub returns-then-at-lt-IN_LIST : goal.returns-then-at-lt-IN_LIST

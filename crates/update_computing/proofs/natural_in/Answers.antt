@@ -1,14 +1,14 @@
 -- By the source.
+use Rattle.std.specs.Prelude.{Option}
 use mathlib.Core.Path.{sym, ap, ◌∙◌}
 use native.Mathlib.Omega.{arith}
 use Rattle.msgpack_first_bytes.specs.Bytes.{Bytes}
 use Rattle.tuples.specs.Decoding.{at_least}
 use Rattle.update_parts.specs.Part.{natural_by}
-use Rattle.update_parts.specs.declared.Natural.{Natural}
 use Rattle.update_places.proofs.Runs.{from-tuple, from_list, from-work}
 use Rattle.update_computing.proofs.natural_in.Goals as goal
 
-abbrev read : Bytes → Natural
+abbrev read : Bytes → Option (ℕ × ℕ)
 read s = natural_by s (at_least 0 s)
 
 pub returns-then-at-lt-IN_LIST : goal.returns-then-at-lt-IN_LIST

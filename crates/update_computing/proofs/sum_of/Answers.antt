@@ -9,8 +9,8 @@ returns-in_default c =
 
 pub returns-in_default-total : goal.returns-in_default-total
 returns-in_default-total c =
-    Numbers.sum_is c.args.minus c.args.v (bytes_from c.args.tuple.now c.args.list.now c.args.work.now c.args.at c.args.size) c.integer_in.ensures c.in-Is.is c.total.ensures c.in_default-total.is
+    Numbers.sum_is c.args.minus c.args.v (bytes_from c.args.tuple.now c.args.list.now c.args.work.now c.args.at c.args.size) c.integer_in.ensures c.in-Some.is c.total.ensures c.in_default-total.is
 
 pub returns : goal.returns
 returns c =
-    Numbers.sum_is c.args.minus c.args.v (bytes_from c.args.tuple.now c.args.list.now c.args.work.now c.args.at c.args.size) c.integer_in.ensures c.in-Is.is c.total.ensures c.in-Is-total.is
+    Numbers.sum_is c.args.minus c.args.v (bytes_from c.args.tuple.now c.args.list.now c.args.work.now c.args.at c.args.size) c.integer_in.ensures c.in-Some.is c.total.ensures c.in-Some-total.is

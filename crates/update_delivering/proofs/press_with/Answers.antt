@@ -5,7 +5,7 @@ use Rattle.update_delivering.proofs.press_with.Goals as goal
 
 pub deliver_both-requires : goal.deliver_both-requires
 deliver_both-requires c =
-    let K = rw c.in-Done.is at c.carry_out.ensures in
+    let K = rw c.in-Ok.is at c.carry_out.ensures in
     (carried_stands K, carried_undoes K c.carry_out.auto.back)
 
 pub returns-in-NoRoom : goal.returns-in-NoRoom
@@ -28,7 +28,7 @@ returns-in-Refused c =
     let e = rw c.in-Refused.is at c.carry_out.ensures in
     (press-refused _ _ _ _ a.out.now a.undo.now e.0, e.1)
 
-pub returns-in-Done : goal.returns-in-Done
-returns-in-Done c =
+pub returns-in-Ok : goal.returns-in-Ok
+returns-in-Ok c =
     let a = c.args in
-    tries_press (rw c.in-Done.is at c.carry_out.ensures) c.deliver_both.result a.work.now a.out.now _ a.undo.now _ a.table.now c.carry_out.auto.back c.deliver_both.ensures
+    tries_press (rw c.in-Ok.is at c.carry_out.ensures) c.deliver_both.result a.work.now a.out.now _ a.undo.now _ a.table.now c.carry_out.auto.back c.deliver_both.ensures

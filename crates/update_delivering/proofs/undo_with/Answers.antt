@@ -5,7 +5,7 @@ use Rattle.update_delivering.proofs.undo_with.Goals as goal
 
 pub deliver_undo-requires : goal.deliver_undo-requires
 deliver_undo-requires c =
-    let K = rw c.in-Done.is at c.carry_out.ensures in
+    let K = rw c.in-Ok.is at c.carry_out.ensures in
     carried_undoes K c.carry_out.auto.back
 
 pub returns-in-NoRoom : goal.returns-in-NoRoom
@@ -27,7 +27,7 @@ returns-in-Refused c =
     let e = rw c.in-Refused.is at c.carry_out.ensures in
     (undo-refused _ _ _ _ a.out.now e.0, e.1)
 
-pub returns-in-Done : goal.returns-in-Done
-returns-in-Done c =
+pub returns-in-Ok : goal.returns-in-Ok
+returns-in-Ok c =
     let a = c.args in
-    tries_undo (rw c.in-Done.is at c.carry_out.ensures) c.deliver_undo.result a.work.now a.out.now _ a.table.now c.carry_out.auto.back c.deliver_undo.ensures
+    tries_undo (rw c.in-Ok.is at c.carry_out.ensures) c.deliver_undo.result a.work.now a.out.now _ a.table.now c.carry_out.auto.back c.deliver_undo.ensures

@@ -7,7 +7,7 @@ pub rebase-requires : goal.rebase-requires
 rebase-requires c = stalled_stands (rw c.in-Full.is at c.carry_out.ensures)
 
 pub deliver-requires : goal.deliver-requires
-deliver-requires c = carried_stands (rw c.in-Done.is at c.carry_out.ensures)
+deliver-requires c = carried_stands (rw c.in-Ok.is at c.carry_out.ensures)
 
 pub returns-in-NoRoom : goal.returns-in-NoRoom
 returns-in-NoRoom c =
@@ -24,7 +24,7 @@ returns-in-Full c =
     let a = c.args in
     tries_moved (rw c.in-Full.is at c.carry_out.ensures) c.rebase.result a.work.now a.out.now _ _ a.table.now c.carry_out.auto.work c.rebase.ensures
 
-pub returns-in-Done : goal.returns-in-Done
-returns-in-Done c =
+pub returns-in-Ok : goal.returns-in-Ok
+returns-in-Ok c =
     let a = c.args in
-    tries_update (rw c.in-Done.is at c.carry_out.ensures) c.deliver.result a.work.now a.out.now _ a.spare.now a.table.now c.deliver.ensures
+    tries_update (rw c.in-Ok.is at c.carry_out.ensures) c.deliver.result a.work.now a.out.now _ a.spare.now a.table.now c.deliver.ensures

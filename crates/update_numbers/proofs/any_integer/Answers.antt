@@ -4,10 +4,9 @@ use native.Mathlib.Omega.{arith}
 use Prim.Native.Nat.{ℕ}
 use lib.ListN.{drop}
 use Rattle.msgpack_first_bytes.specs.Bytes.{Bytes}
-use Rattle.msgpack_scalars.specs.Integer.{integer, shift_integer}
+use Rattle.msgpack_scalars.specs.Integer.{integer, shift_integer, Integer}
 use borrow.Author.Tests.{eqb-true}
 use Rattle.msgpack_first_bytes.specs.Entry.{positive_fixint}
-use Rattle.msgpack_scalars.specs.declared.Integer.{Integer}
 use Rattle.msgpack_scalars.proofs.Short.{integer_past, integer-small}
 use Rattle.tuples.specs.Decoding.{any_integer}
 use Rattle.update_parts.specs.Part.{signed_by}
@@ -32,11 +31,11 @@ returns-then-s-at c = let a = c.args in integer-at a.s.now a.at _ (integer_past 
 pub overflow_cast-result : goal.overflow_cast-result
 overflow_cast-result c = omega (arith, c.type_inv.s c.args.at)
 
-pub returns-in-Is : goal.returns-in-Is
-returns-in-Is c = told c.args.s.now c.args.at c.integer_at.ensures c.in-Is.is
+pub returns-in-Some : goal.returns-in-Some
+returns-in-Some c = told c.args.s.now c.args.at c.integer_at.ensures c.in-Some.is
 
-pub returns-in-Cut : goal.returns-in-Cut
-returns-in-Cut c = told c.args.s.now c.args.at c.integer_at.ensures c.in-Cut.is
+pub returns-in-Err-Cut : goal.returns-in-Err-Cut
+returns-in-Err-Cut c = told c.args.s.now c.args.at c.integer_at.ensures c.in-Err-Cut.is
 
-pub returns-in-Other : goal.returns-in-Other
-returns-in-Other c = told c.args.s.now c.args.at c.integer_at.ensures c.in-Other.is
+pub returns-in-Err-Other : goal.returns-in-Err-Other
+returns-in-Err-Other c = told c.args.s.now c.args.at c.integer_at.ensures c.in-Err-Other.is

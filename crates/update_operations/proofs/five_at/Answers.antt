@@ -11,12 +11,12 @@ returns-in_default c = let a = c.args in
 
 pub returns-in_default-at_least : goal.returns-in_default-at_least
 returns-in_default-at_least c = let a = c.args in
-    rw c.if-mark-ne58.false (rw (← c.position_at.ensures, c.in-Is.is, ← c.at_least.ensures, c.in_default-at_least.is) at (five-is a.list.now a.at a.base))
+    rw c.if-mark-ne58.false (rw (← c.position_at.ensures, c.in-Some.is, ← c.at_least.ensures, c.in_default-at_least.is) at (five-is a.list.now a.at a.base))
 
 pub returns-in_default-string_at : goal.returns-in_default-string_at
 returns-in_default-string_at c = let a = c.args in
-    rw c.if-mark-ne58.false (rw (← c.position_at.ensures, c.in-Is.is, ← c.at_least.ensures, c.in-Is-at_least.is, ← c.string_at.ensures, c.in_default-string_at.is) at (five-is a.list.now a.at a.base))
+    rw c.if-mark-ne58.false (rw (← c.position_at.ensures, c.in-Some.is, ← c.at_least.ensures, c.in-Some-at_least.is, ← c.string_at.ensures, c.in_default-string_at.is) at (five-is a.list.now a.at a.base))
 
 pub returns : goal.returns
 returns c = let a = c.args in
-    rw c.if-mark-ne58.false (rw (← c.position_at.ensures, c.in-Is.is, ← c.at_least.ensures, c.in-Is-at_least.is, ← c.string_at.ensures, c.in-Is-string_at.is) at (five-is a.list.now a.at a.base))
+    rw c.if-mark-ne58.false (rw (← c.position_at.ensures, c.in-Some.is, ← c.at_least.ensures, c.in-Some-at_least.is, ← c.string_at.ensures, c.in-Some-string_at.is) at (five-is a.list.now a.at a.base))

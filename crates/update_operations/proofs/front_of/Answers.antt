@@ -15,8 +15,8 @@ returns-in_default c = let a = c.args in
 
 pub returns-then-count-gt-MAX_OPERATIONS : goal.returns-then-count-gt-MAX_OPERATIONS
 returns-then-count-gt-MAX_OPERATIONS c = let a = c.args in
-    rw (← c.count_at.ensures, c.in-Is.is, lt-leb _ _ c.if-count-gt-MAX_OPERATIONS.true) at (fronted a.base a.list.now c.if-base-gt1.false c.if-list-gt-MAX_LIST.false)
+    rw (← c.count_at.ensures, c.in-Some.is, lt-leb _ _ c.if-count-gt-MAX_OPERATIONS.true) at (fronted a.base a.list.now c.if-base-gt1.false c.if-list-gt-MAX_LIST.false)
 
 pub returns : goal.returns
 returns c = let a = c.args in
-    rw (← c.count_at.ensures, c.in-Is.is, le-leb _ _ c.if-count-gt-MAX_OPERATIONS.false) at (fronted a.base a.list.now c.if-base-gt1.false c.if-list-gt-MAX_LIST.false)
+    rw (← c.count_at.ensures, c.in-Some.is, le-leb _ _ c.if-count-gt-MAX_OPERATIONS.false) at (fronted a.base a.list.now c.if-base-gt1.false c.if-list-gt-MAX_LIST.false)

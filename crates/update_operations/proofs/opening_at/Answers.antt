@@ -7,12 +7,12 @@ returns-in_default c = let a = c.args in rw (← c.count_at.ensures, c.in_defaul
 
 pub returns-in_default-mark_at : goal.returns-in_default-mark_at
 returns-in_default-mark_at c = let a = c.args in
-    rw (← c.count_at.ensures, c.in-Is.is, ← c.mark_at.ensures, c.in_default-mark_at.is) at (opening-is a.list.now a.at)
+    rw (← c.count_at.ensures, c.in-Some.is, ← c.mark_at.ensures, c.in_default-mark_at.is) at (opening-is a.list.now a.at)
 
 pub returns-in_default-any_integer : goal.returns-in_default-any_integer
 returns-in_default-any_integer c = let a = c.args in
-    rw (← c.count_at.ensures, c.in-Is.is, ← c.mark_at.ensures, c.in-Is-mark_at.is, ← c.any_integer.ensures, c.in_default-any_integer.is) at (opening-is a.list.now a.at)
+    rw (← c.count_at.ensures, c.in-Some.is, ← c.mark_at.ensures, c.in-Some-mark_at.is, ← c.any_integer.ensures, c.in_default-any_integer.is) at (opening-is a.list.now a.at)
 
 pub returns : goal.returns
 returns c = let a = c.args in
-    rw (← c.count_at.ensures, c.in-Is.is, ← c.mark_at.ensures, c.in-Is-mark_at.is, ← c.any_integer.ensures, c.in-Is-any_integer.is) at (opening-is a.list.now a.at)
+    rw (← c.count_at.ensures, c.in-Some.is, ← c.mark_at.ensures, c.in-Some-mark_at.is, ← c.any_integer.ensures, c.in-Some-any_integer.is) at (opening-is a.list.now a.at)

@@ -7,8 +7,8 @@ returns-in_default c = let a = c.args in rw (← c.opening_at.ensures, c.in_defa
 
 pub returns-in_default-action_at : goal.returns-in_default-action_at
 returns-in_default-action_at c = let a = c.args in
-    rw (← c.opening_at.ensures, c.in-Is.is, ← c.action_at.ensures, c.in_default-action_at.is) at (operation_decoded a.base a.list.now a.at)
+    rw (← c.opening_at.ensures, c.in-Some.is, ← c.action_at.ensures, c.in_default-action_at.is) at (operation_decoded a.base a.list.now a.at)
 
 pub returns : goal.returns
 returns c = let a = c.args in
-    rw (← c.opening_at.ensures, c.in-Is.is, ← c.action_at.ensures, c.in-Is-action_at.is, ← c.field_of.ensures) at (operation_decoded a.base a.list.now a.at)
+    rw (← c.opening_at.ensures, c.in-Some.is, ← c.action_at.ensures, c.in-Some-action_at.is, ← c.field_of.ensures) at (operation_decoded a.base a.list.now a.at)

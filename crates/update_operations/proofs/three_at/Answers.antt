@@ -10,11 +10,11 @@ returns-in_default c = let a = c.args in
 
 pub returns-then-mark-eq61 : goal.returns-then-mark-eq61
 returns-then-mark-eq61 c = let a = c.args in
-    rw (← c.any_value.ensures, c.in-Is.is, eq-eqb _ _ c.if-mark-eq61.true) at (three-value a.list.now a.at a.mark c.if-mark.true)
+    rw (← c.any_value.ensures, c.in-Some.is, eq-eqb _ _ c.if-mark-eq61.true) at (three-value a.list.now a.at a.mark c.if-mark.true)
 
 pub returns-then-mark : goal.returns-then-mark
 returns-then-mark c = let a = c.args in
-    rw (← c.any_value.ensures, c.in-Is.is, ne_eqb _ _ c.if-mark-eq61.false) at (three-value a.list.now a.at a.mark c.if-mark.true)
+    rw (← c.any_value.ensures, c.in-Some.is, ne_eqb _ _ c.if-mark-eq61.false) at (three-value a.list.now a.at a.mark c.if-mark.true)
 
 pub returns-in_default-any_integer : goal.returns-in_default-any_integer
 returns-in_default-any_integer c = let a = c.args in
@@ -22,4 +22,4 @@ returns-in_default-any_integer c = let a = c.args in
 
 pub returns : goal.returns
 returns c = let a = c.args in
-    c.by_integer.ensures ∙ rw (← c.any_integer.ensures, c.in-Is-any_integer.is) at (three-integer a.list.now a.at a.mark c.if-mark.false)
+    c.by_integer.ensures ∙ rw (← c.any_integer.ensures, c.in-Some-any_integer.is) at (three-integer a.list.now a.at a.mark c.if-mark.false)

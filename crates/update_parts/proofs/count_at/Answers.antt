@@ -18,10 +18,10 @@ pub returns-then-s-at : goal.returns-then-s-at
 returns-then-s-at c = let a = c.args in
     count_at a.s.now a.at _ (header_past a.s.now a.at array_by c.if-s-at.true)
 
-pub returns-in-Is : goal.returns-in-Is
-returns-in-Is c = let a = c.args in
-    count_at a.s.now a.at _ (sym c.in-Is.is ∙ c.header_at.ensures)
+pub returns-in-Some : goal.returns-in-Some
+returns-in-Some c = let a = c.args in
+    count_at a.s.now a.at _ (sym c.in-Some.is ∙ c.header_at.ensures)
 
-pub returns-in-Other : goal.returns-in-Other
-returns-in-Other c = let a = c.args in
-    count_at a.s.now a.at _ (sym c.in-Other.is ∙ c.header_at.ensures)
+pub returns-in-None : goal.returns-in-None
+returns-in-None c = let a = c.args in
+    count_at a.s.now a.at _ (sym c.in-None.is ∙ c.header_at.ensures)

@@ -5,9 +5,8 @@ use Prim.Native.Nat.{ℕ}
 use lib.ListN.{drop}
 use Rattle.msgpack_first_bytes.specs.Bytes.{Bytes}
 use Rattle.msgpack_scalars.specs.Start.{string_by}
-use Rattle.msgpack_scalars.specs.Header.{header, shift_header}
+use Rattle.msgpack_scalars.specs.Header.{header, shift_header, Header}
 use borrow.Author.Tests.{le-leb, lt-leb}
-use Rattle.msgpack_scalars.specs.declared.Header.{Header}
 use Rattle.tuples.specs.Decoding.{string}
 use Rattle.update_parts.specs.Part.{span_by}
 use Rattle.update_parts.proofs.Reading.{string_of, string-start, string-at}
@@ -23,10 +22,10 @@ returns-in_default c = told c.args.s.now c.args.at c.header_at.ensures c.in_defa
 
 pub overflow_sub-s : goal.overflow_sub-s
 overflow_sub-s c =
-    let k = string-start c.args.s.now c.args.at c.header_at.ensures c.in-Is.is in omega arith
+    let k = string-start c.args.s.now c.args.at c.header_at.ensures c.in-Some.is in omega arith
 
 pub returns-then-s-start : goal.returns-then-s-start
-returns-then-s-start c = rw (lt-leb _ _ c.if-s-start.true) at (told c.args.s.now c.args.at c.header_at.ensures c.in-Is.is)
+returns-then-s-start c = rw (lt-leb _ _ c.if-s-start.true) at (told c.args.s.now c.args.at c.header_at.ensures c.in-Some.is)
 
 pub returns : goal.returns
-returns c = rw (le-leb _ _ c.if-s-start.false) at (told c.args.s.now c.args.at c.header_at.ensures c.in-Is.is)
+returns c = rw (le-leb _ _ c.if-s-start.false) at (told c.args.s.now c.args.at c.header_at.ensures c.in-Some.is)

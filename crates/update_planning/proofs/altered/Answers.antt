@@ -1,11 +1,12 @@
 -- One law for each way back.
+use Rattle.std.specs.Prelude.{Ok}
 use mathlib.Core.Path.{refl, ap, ◌∙◌}
 use native.Mathlib.Omega.{arith}
 use Prim.Native.Nat.{ℕ, ◌-◌}
 use Rattle.update_places.specs.Place.{in_work}
-use Rattle.update_planning.specs.declared.Planned.TheVariants.{Put}
 use Rattle.update_planning.proofs.Answers.{round, altered-further, altered_past, altered_as}
 use Rattle.update_planning.proofs.altered.Goals as goal
+use Rattle.update_planning.specs.declared.Plan.TheVariants.{Put}
 
 pub returns-then-n-f : goal.returns-then-n-f
 returns-then-n-f c =
@@ -15,7 +16,7 @@ returns-then-n-f c =
 pub overflow_sub-to : goal.overflow_sub-to
 overflow_sub-to c =
     let a = c.args in
-    let h = altered-further a.tuple.now a.list.now a.work.now a.used a.old a.end a.change c.alter.ensures.0 c.in-Is.is in
+    let h = altered-further a.tuple.now a.list.now a.work.now a.used a.old a.end a.change c.alter.ensures.0 c.in-Ok.is in
     omega (arith, h)
 
 pub returns-in-Refused : goal.returns-in-Refused
@@ -30,9 +31,9 @@ returns-in-Full c =
     altered_as a.tuple.now a.list.now a.work.now a.used a.old a.n a.end a.f a.change (omega arith) c.alter.ensures
     c.in-Full.is refl
 
-pub returns-in-Is : goal.returns-in-Is
-returns-in-Is c =
+pub returns-in-Ok : goal.returns-in-Ok
+returns-in-Ok c =
     let a = c.args in
-    let to = c.in-Is.to in
+    let to = c.in-Ok.to in
     altered_as a.tuple.now a.list.now a.work.now a.used a.old a.n a.end a.f a.change (omega arith) c.alter.ensures
-    c.in-Is.is (ap (λ (q : ℕ). Put a.f q to) (c.place_of.ensures ∙ round in_work a.used (to - a.used)))
+    c.in-Ok.is (ap (λ (q : ℕ). Ok (Put a.f q to)) (c.place_of.ensures ∙ round in_work a.used (to - a.used)))

@@ -12,22 +12,22 @@ returns-in_default c =
 pub returns-in-Alter : goal.returns-in-Alter
 returns-in-Alter c =
     let a = c.args in
-    at_field a.tuple.now a.list.now a.work.now a.used a.old a.n a.end c.in-At.is c.in-Alter.is c.altered.ensures
+    at_field a.tuple.now a.list.now a.work.now a.used a.old a.n a.end c.in-Some.is c.in-Alter.is c.altered.ensures
 
 pub returns-in-Assign : goal.returns-in-Assign
 unfolding planned_at work_at
 returns-in-Assign c =
     let a = c.args in
-    at_field a.tuple.now a.list.now a.work.now a.used a.old a.n a.end c.in-At.is c.in-Assign.is (c.assigned.ensures, refl)
+    at_field a.tuple.now a.list.now a.work.now a.used a.old a.n a.end c.in-Some.is c.in-Assign.is (c.assigned.ensures, refl)
 
 pub returns-in-Insert : goal.returns-in-Insert
 unfolding planned_at work_at
 returns-in-Insert c =
     let a = c.args in
-    at_field a.tuple.now a.list.now a.work.now a.used a.old a.n a.end c.in-At.is c.in-Insert.is (c.inserted.ensures, refl)
+    at_field a.tuple.now a.list.now a.work.now a.used a.old a.n a.end c.in-Some.is c.in-Insert.is (c.inserted.ensures, refl)
 
 pub returns-in-Remove : goal.returns-in-Remove
 unfolding planned_at work_at
 returns-in-Remove c =
     let a = c.args in
-    at_field a.tuple.now a.list.now a.work.now a.used a.old a.n a.end c.in-At.is c.in-Remove.is (c.removed.ensures, refl)
+    at_field a.tuple.now a.list.now a.work.now a.used a.old a.n a.end c.in-Some.is c.in-Remove.is (c.removed.ensures, refl)

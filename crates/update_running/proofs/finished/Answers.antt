@@ -4,15 +4,15 @@ use Rattle.update_running.specs.Carrying.{finishes_by}
 use Rattle.update_running.proofs.Entries.{not_finished, is_finished}
 use Rattle.update_running.proofs.finished.Goals as goal
 
-pub returns-in-Going : goal.returns-in-Going
-returns-in-Going c =
+pub returns-in-Ok : goal.returns-in-Ok
+returns-in-Ok c =
     let a = c.args in
-    ap finishes_by (sym c.in-Going.is) ∙ is_finished a.course a.at a.list.now (omega arith)
+    ap finishes_by (sym c.in-Ok.is) ∙ is_finished a.course a.at a.list.now (omega arith)
 
-pub returns-in-Stopped : goal.returns-in-Stopped
-returns-in-Stopped c =
+pub returns-in-Err : goal.returns-in-Err
+returns-in-Err c =
     let a = c.args in
-    ap finishes_by (sym c.in-Stopped.is) ∙ is_finished a.course a.at a.list.now (omega arith)
+    ap finishes_by (sym c.in-Err.is) ∙ is_finished a.course a.at a.list.now (omega arith)
 
 pub returns-then-at-list : goal.returns-then-at-list
 returns-then-at-list c = let a = c.args in not_finished a.course a.at a.list.now (omega arith)

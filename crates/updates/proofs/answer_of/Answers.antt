@@ -4,8 +4,7 @@ use native.Mathlib.Omega.{arith}
 use Rattle.tuples.specs.declared.Answer.{Answer}
 use Rattle.tuples.specs.Call.{spoiled_in}
 use Rattle.update_answers.specs.Seen.{answer_at}
-use Rattle.updates.specs.declared.Call.{Call}
-use Rattle.updates.specs.Telling.{FewIn, answer_by}
+use Rattle.updates.specs.Telling.{Call, FewIn, answer_by}
 use Rattle.updates.proofs.answer_of.Goals as goal
 
 pub overflow_cast-i : goal.overflow_cast-i
@@ -13,8 +12,8 @@ overflow_cast-i c =
     let f = subst FewIn c.in-Refused.is c.requires in
     omega arith
 
-pub returns-in-Written : goal.returns-in-Written
-returns-in-Written c = rw c.in-Written.is
+pub returns-in-Ok : goal.returns-in-Ok
+returns-in-Ok c = rw c.in-Ok.is
 
 pub returns-in-Refused : goal.returns-in-Refused
 returns-in-Refused c =

@@ -2,10 +2,10 @@
 use Rattle.updates.proofs.Calls.{press-both, press-declined, press-long, refuses_few}
 use Rattle.updates.proofs.press.Goals as goal
 
-pub returns-in-Written : goal.returns-in-Written
-returns-in-Written c =
+pub returns-in-Ok : goal.returns-in-Ok
+returns-in-Ok c =
     let a = c.args in
-    let n = c.in-Written in
+    let n = c.in-Ok in
     rw (c.press_answer.ensures, c.answer_of.ensures) (press-both a.tuple.now a.list.now a.index_base a.out.now a.back.now n.length n.undo_length _ _ (rw n.is at c.pressed.ensures))
 
 pub returns-in-Refused : goal.returns-in-Refused

@@ -7,10 +7,10 @@ returns-in-Refused c =
     let a = c.args in
     rw c.in-Refused.is at (told-press a.tuple.now a.list.now a.base c.front_of-front.result c.front_of-front.ensures a.out.now _ a.back.now _ c.press_with.result _ _ c.press_with.ensures)
 
-pub returns-in-Written : goal.returns-in-Written
-returns-in-Written c =
+pub returns-in-Ok : goal.returns-in-Ok
+returns-in-Ok c =
     let a = c.args in
-    rw c.in-Written.is at (told-press a.tuple.now a.list.now a.base c.front_of-front.result c.front_of-front.ensures a.out.now _ a.back.now _ c.press_with.result _ _ c.press_with.ensures)
+    rw c.in-Ok.is at (told-press a.tuple.now a.list.now a.base c.front_of-front.result c.front_of-front.ensures a.out.now _ a.back.now _ c.press_with.result _ _ c.press_with.ensures)
 
 pub returns-in-NoRoom : goal.returns-in-NoRoom
 returns-in-NoRoom c =

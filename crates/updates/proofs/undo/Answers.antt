@@ -1,22 +1,23 @@
 -- The answer with its place.
+use Rattle.std.specs.Prelude.{Ok, Err}
 use Rattle.tuples.specs.Call.{undo, undo_call}
-use Rattle.updates.specs.declared.Call.{TheVariants.Refused, TheVariants.Written}
 use Rattle.updates.proofs.Calls.{answers, answers-long, refuses_few}
 use Rattle.updates.proofs.undo.Goals as goal
+use Rattle.update_delivering.specs.declared.Failed.TheVariants.{Refused}
 
-pub returns-in-Written : goal.returns-in-Written
+pub returns-in-Ok : goal.returns-in-Ok
 unfolding undo_call
-returns-in-Written c =
+returns-in-Ok c =
     let a = c.args in
-    let n = c.in-Written in
-    rw c.answer_of.ensures (answers a.tuple.now a.list.now (Written n.length) (undo a.tuple.now a.list.now a.index_base) a.out.now _ (rw n.is at c.undone.ensures))
+    let n = c.in-Ok in
+    rw c.answer_of.ensures (answers a.tuple.now a.list.now (Ok n.length) (undo a.tuple.now a.list.now a.index_base) a.out.now _ (rw n.is at c.undone.ensures))
 
 pub returns-in-Refused : goal.returns-in-Refused
 unfolding undo_call
 returns-in-Refused c =
     let a = c.args in
     let n = c.in-Refused in
-    rw c.answer_of-in-Refused.ensures (answers a.tuple.now a.list.now (Refused n.refusal n.i) (undo a.tuple.now a.list.now a.index_base) a.out.now _ (rw n.is at c.undone.ensures))
+    rw c.answer_of-in-Refused.ensures (answers a.tuple.now a.list.now (Err (Refused n.refusal n.i)) (undo a.tuple.now a.list.now a.index_base) a.out.now _ (rw n.is at c.undone.ensures))
 
 pub returns-in-NoRoom : goal.returns-in-NoRoom
 unfolding undo_call

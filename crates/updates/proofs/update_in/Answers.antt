@@ -1,7 +1,6 @@
 use mathlib.Core.Path.{sym, subst}
 use Rattle.tuples.specs.Call.{update}
-use Rattle.updates.specs.declared.Call.{Call}
-use Rattle.updates.specs.Telling.{Tells}
+use Rattle.updates.specs.Telling.{Call, Tells}
 use Rattle.updates.proofs.Calls.{told-update}
 use Rattle.updates.proofs.update_in.Goals as goal
 

@@ -41,11 +41,11 @@ returns-in-Refused c =
     let h = rw c.in-Refused.is at c.update_with.ensures in
     (h.0 ∙ told_as a.tuple.now a.list.now a.base g.invariant.0 g.invariant.1.0, h.2)
 
-pub returns-in-Written : goal.returns-in-Written
-returns-in-Written c =
+pub returns-in-Ok : goal.returns-in-Ok
+returns-in-Ok c =
     let g = c.loop-refusal in
     let a = c.args in
-    let h = rw c.in-Written.is at c.update_with.ensures in
+    let h = rw c.in-Ok.is at c.update_with.ensures in
     h.0 ∙ told_as a.tuple.now a.list.now a.base g.invariant.0 g.invariant.1.0
 
 pub slice_bounds-write_bytes-end-in-Moved : goal.slice_bounds-write_bytes-end-in-Moved
