@@ -23,7 +23,7 @@ use update_places::{IN_LIST, IN_WORK};
 
 // Where the new field ends in the work array; why there is none; or it has no room there.
 // Why an operation does nothing: it is refused; or the work array has no room for what it makes.
-#[derive(Clone, Copy, PartialEq, Eq)]
+#[derive(Clone, Copy)]
 pub enum Obstacle {
     Refused(Refusal),
     Full,

@@ -18,7 +18,7 @@ use Rattle.update_places.specs.Place.{in_list, place_of}
 use Rattle.update_altering.specs.Altering.{altered_by, work_by, Altered}
 use Rattle.update_planning.specs.Plan.{assigned_by, inserted_by, removed_by, changed_by, alone, planned_at, work_at, planned, work_after, Planned}
 use Rattle.update_altering.specs.declared.Obstacle.TheVariants.{Refused}
-use Rattle.update_planning.specs.declared.Plan.TheVariants.{Add, Cut, Put}
+use Rattle.update_planning.specs.declared.TableEdit.TheVariants.{Add, Cut, Put}
 
 -- a start that is taken round has the same place
 pub round : (from start n : ℕ) → place_of (from + start % 131072) n ≡ place_of (from + start) n

@@ -43,7 +43,7 @@ use Rattle.update_places.proofs.Runs.{from_list, from-work}
 use Rattle.update_altering.specs.Altering.{changed, altered_by, work_by}
 use Rattle.update_planning.specs.Plan.{brought, assigned_by, inserted_by, removed_by, changed_by, planned_at, work_at, planned, work_after, Planned}
 use Rattle.update_altering.specs.declared.Obstacle.TheVariants.{Full, Refused}
-use Rattle.update_planning.specs.declared.Plan.TheVariants.{Add, Cut, Put}
+use Rattle.update_planning.specs.declared.TableEdit.TheVariants.{Add, Cut, Put}
 
 -- ---- what a plan says of the definition's edit of the fields fs; w is the work array, of which u bytes are in use, and v the one that the plan leaves
 

@@ -11,13 +11,13 @@ use Rattle.update_operations.specs.declared.Action.TheVariants.{Alter, Assign, I
 use Rattle.update_operations.specs.declared.Change.{Change}
 use Rattle.update_altering.specs.Altering.{changed, altered_by, work_by, Altered}
 use Rattle.update_altering.specs.declared.Obstacle.TheVariants.{Full, Refused}
-use Rattle.update_planning.specs.declared.Plan.TheVariants.{Add, Cut, Put}
-use Rattle.update_planning.specs.declared.Plan.{Plan}
+use Rattle.update_planning.specs.declared.TableEdit.TheVariants.{Add, Cut, Put}
+use Rattle.update_planning.specs.declared.TableEdit.{TableEdit}
 use Rattle.update_altering.specs.declared.Obstacle.{Obstacle}
 
 -- what an operation does to the fields that it meets, or why nothing
 abbrev pub Planned : Type 0
-Planned = Result Plan Obstacle
+Planned = Result TableEdit Obstacle
 
 -- a field of the list's bytes from a up to e: one above a tuple's limit by itself is refused with 16
 abbrev pub brought : (ℕ → Planned) → ℕ → ℕ → Planned

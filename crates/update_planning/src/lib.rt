@@ -18,13 +18,13 @@ use update_places::{IN_LIST, IN_WORK};
 // A place comes for field f, with so many bytes of the work array in use then; one comes before field f; so
 // many fields go from f on.
 #[derive(Clone, Copy)]
-pub enum Plan {
+pub enum TableEdit {
     Put(usize, u32, usize),
     Add(usize, u32),
     Cut(usize, usize),
 }
 
-pub type Planned = Result<Plan, Obstacle>;
+pub type Planned = Result<TableEdit, Obstacle>;
 
 // How far `end` is past `start`.
 fn span(start: usize, end: usize) -> usize
@@ -55,9 +55,9 @@ fn assigned(f: usize, n: usize, start: usize, end: usize, used: usize) -> Planne
         return Err(Obstacle::Refused(Refusal::TooLarge));
     }
     if f < n {
-        return Ok(Plan::Put(f, in_list(start, long), used));
+        return Ok(TableEdit::Put(f, in_list(start, long), used));
     }
-    Ok(Plan::Add(f, in_list(start, long)))
+    Ok(TableEdit::Add(f, in_list(start, long)))
 }
 
 // `!`.
@@ -71,7 +71,7 @@ fn inserted(f: usize, n: usize, start: usize, end: usize) -> Planned
     if MAX_TUPLE < long {
         return Err(Obstacle::Refused(Refusal::TooLarge));
     }
-    Ok(Plan::Add(f, in_list(start, long)))
+    Ok(TableEdit::Add(f, in_list(start, long)))
 }
 
 // `#`.
@@ -82,9 +82,9 @@ fn removed(f: usize, n: usize, m: u64) -> Planned
         return Err(Obstacle::Refused(Refusal::NoField));
     }
     if m < (n - f) as u64 {
-        return Ok(Plan::Cut(f, m as usize));
+        return Ok(TableEdit::Cut(f, m as usize));
     }
-    Ok(Plan::Cut(f, n - f))
+    Ok(TableEdit::Cut(f, n - f))
 }
 
 // What alters a field whose place is `old`.
@@ -108,7 +108,7 @@ fn altered(
     match update_altering::alter(tuple, list, work, used, old, change, end) {
         Err(Obstacle::Refused(refusal)) => Err(Obstacle::Refused(refusal)),
         Err(Obstacle::Full) => Err(Obstacle::Full),
-        Ok(to) => Ok(Plan::Put(f, update_places::place_of(IN_WORK + used % 0x2_0000, to - used), to)),
+        Ok(to) => Ok(TableEdit::Put(f, update_places::place_of(IN_WORK + used % 0x2_0000, to - used), to)),
     }
 }
 

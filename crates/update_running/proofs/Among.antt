@@ -16,7 +16,7 @@ use Rattle.update_altering.specs.Altering.{altered_by, Altered}
 use Rattle.update_planning.specs.Plan.{brought, changed_by, alone, planned_at, planned, Planned}
 use Rattle.update_running.specs.Steps.{Among}
 use Rattle.update_altering.specs.declared.Obstacle.TheVariants.{Full, Refused}
-use Rattle.update_planning.specs.declared.Plan.TheVariants.{Add, Put}
+use Rattle.update_planning.specs.declared.TableEdit.TheVariants.{Add, Put}
 
 brought-among : (made : ℕ → Planned) (n a e : ℕ) → ((p : ℕ) → Among (made p) n) → Among (brought made a e) n
 brought-among made n a e h = by_leb (λ (r : Planned). Among r n) (e - a) max_tuple (λ _. h _) (λ _. tt)

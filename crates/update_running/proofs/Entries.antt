@@ -23,7 +23,7 @@ use Rattle.update_running.specs.declared.Stage.{Stage}
 use Rattle.update_running.specs.Steps.{Performed, entry_of, laid_from, fitting, gone_place, gone_places, gone_bytes, bytes_put, put_stage, add_stage, cut_stage, performed, table_after, back_after}
 use Rattle.update_running.specs.Carrying.{finishes_by, finishing}
 use Rattle.update_altering.specs.declared.Obstacle.TheVariants.{Refused}
-use Rattle.update_planning.specs.declared.Plan.TheVariants.{Add, Cut, Put}
+use Rattle.update_planning.specs.declared.TableEdit.TheVariants.{Add, Cut, Put}
 use Rattle.update_running.specs.declared.Unfinished.TheVariants.{Refused as RefusedAt}
 
 -- ---- entries one by one

@@ -35,7 +35,7 @@ use Rattle.update_running.proofs.Sums.{length-map, length-spliced}
 use Rattle.update_running.proofs.Holding.{edited_bytes, Edits, fields-next, held_next}
 use Rattle.update_running.proofs.Undoing.{entry_place_lem, entry-is, entry_removes, place-nothing, operation-length, in_word_lem, length-laid, take-laid, restoring, restoring_whole, restoring_bytes, restored-length}
 use Rattle.update_altering.specs.declared.Obstacle.TheVariants.{Full, Refused}
-use Rattle.update_planning.specs.declared.Plan.TheVariants.{Add, Cut, Put}
+use Rattle.update_planning.specs.declared.TableEdit.TheVariants.{Add, Cut, Put}
 
 -- ---- 16, by numbers
 

@@ -33,7 +33,7 @@ use Rattle.update_running.proofs.Performing.{fields-length, within, gone_bytes_l
 use Rattle.update_running.proofs.Stepping.{Steps}
 use Rattle.update_running.proofs.Turns.{later_back, Sofar, InCourse, course_passed, course_stops, course_goes, course_full, course_over, course_ends}
 use Rattle.update_altering.specs.declared.Obstacle.TheVariants.{Full, Refused}
-use Rattle.update_planning.specs.declared.Plan.TheVariants.{Add, Cut, Put}
+use Rattle.update_planning.specs.declared.TableEdit.TheVariants.{Add, Cut, Put}
 
 -- ---- what is held is sound
 

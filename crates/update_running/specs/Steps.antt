@@ -10,7 +10,7 @@ use Rattle.update_numbers.specs.FieldNumber.{Field}
 use Rattle.update_planning.specs.Plan.{Planned}
 use Rattle.update_running.specs.declared.Stage.{Stage}
 use Rattle.update_altering.specs.declared.Obstacle.TheVariants.{Full, Refused}
-use Rattle.update_planning.specs.declared.Plan.TheVariants.{Add, Cut, Put}
+use Rattle.update_planning.specs.declared.TableEdit.TheVariants.{Add, Cut, Put}
 use Rattle.update_altering.specs.declared.Obstacle.{Obstacle}
 
 -- the stage after an operation, or why there is none

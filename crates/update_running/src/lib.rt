@@ -12,14 +12,14 @@ ghost use Rattle.update_running.specs.Steps.{entry_of, laid_from, old_of, fittin
 ghost use Rattle.update_running.specs.Held.{fields_now};
 ghost use Rattle.update_running.specs.Course.{stepped, work_step, table_step, back_step, CourseSound};
 ghost use Rattle.update_running.specs.Carrying.{Carries, Begun, finishing};
-ghost use Rattle.update_planning.specs.declared.Plan.TheVariants.{Add, Put, Cut};
+ghost use Rattle.update_planning.specs.declared.TableEdit.TheVariants.{Add, Put, Cut};
 
 use update_altering::Obstacle;
 use tuples::{MAX_FIELDS, MAX_LIST, MAX_OPERATIONS, MAX_TUPLE, Refusal};
 use update_loading::Unloaded;
 use update_numbers::Field;
 use update_operations::Action;
-use update_planning::{Plan, Planned};
+use update_planning::{TableEdit, Planned};
 
 // A table of so many entries has room for every tuple and every list.
 pub const TABLE_ROOM: usize = MAX_FIELDS + MAX_OPERATIONS + MAX_OPERATIONS;
@@ -161,9 +161,9 @@ fn put_field(
     stage: Stage,
 ) -> Performed
     requires { Sound stage table.old × (f < stage.fields) }
-    ensures { (result ≡ performed (Ok (@update_planning:Plan:Put@ f p used)) stage table.old)
-        × (table.new ≡ table_after (Ok (@update_planning:Plan:Put@ f p used)) stage table.old)
-        × (back.new ≡ back_after (Ok (@update_planning:Plan:Put@ f p used)) stage table.old back.old) }
+    ensures { (result ≡ performed (Ok (Put f p used)) stage table.old)
+        × (table.new ≡ table_after (Ok (Put f p used)) stage table.old)
+        × (back.new ≡ back_after (Ok (Put f p used)) stage table.old back.old) }
 {
     let at = stage.head + f;
     let old = table[at];
@@ -188,9 +188,9 @@ fn put_field(
 
 fn add_field(table: &mut [u32], back: &mut [u64], f: usize, p: u32, stage: Stage) -> Performed
     requires { Sound stage table.old × (f ≤ stage.fields) }
-    ensures { (result ≡ performed (Ok (@update_planning:Plan:Add@ f p)) stage table.old)
-        × (table.new ≡ table_after (Ok (@update_planning:Plan:Add@ f p)) stage table.old)
-        × (back.new ≡ back_after (Ok (@update_planning:Plan:Add@ f p)) stage table.old back.old) }
+    ensures { (result ≡ performed (Ok (Add f p)) stage table.old)
+        × (table.new ≡ table_after (Ok (Add f p)) stage table.old)
+        × (back.new ≡ back_after (Ok (Add f p)) stage table.old back.old) }
 {
     let n = stage.fields;
     let bytes = stage.bytes + update_places::length_of(p);
@@ -213,9 +213,9 @@ fn add_field(table: &mut [u32], back: &mut [u64], f: usize, p: u32, stage: Stage
 
 fn cut_fields(table: &mut [u32], back: &mut [u64], f: usize, m: usize, stage: Stage) -> Performed
     requires { Sound stage table.old × (f + m ≤ stage.fields) }
-    ensures { (result ≡ performed (Ok (@update_planning:Plan:Cut@ f m)) stage table.old)
-        × (table.new ≡ table_after (Ok (@update_planning:Plan:Cut@ f m)) stage table.old)
-        × (back.new ≡ back_after (Ok (@update_planning:Plan:Cut@ f m)) stage table.old back.old) }
+    ensures { (result ≡ performed (Ok (Cut f m)) stage table.old)
+        × (table.new ≡ table_after (Ok (Cut f m)) stage table.old)
+        × (back.new ≡ back_after (Ok (Cut f m)) stage table.old back.old) }
 {
     let n = stage.fields;
     let from = stage.head + f;
@@ -248,9 +248,9 @@ fn perform(table: &mut [u32], back: &mut [u64], plan: Planned, stage: Stage) -> 
     match plan {
         Err(Obstacle::Refused(refusal)) => Err(Obstacle::Refused(refusal)),
         Err(Obstacle::Full) => Err(Obstacle::Full),
-        Ok(Plan::Put(f, p, used)) => put_field(table, back, f, p, used, stage),
-        Ok(Plan::Add(f, p)) => add_field(table, back, f, p, stage),
-        Ok(Plan::Cut(f, m)) => cut_fields(table, back, f, m, stage),
+        Ok(TableEdit::Put(f, p, used)) => put_field(table, back, f, p, used, stage),
+        Ok(TableEdit::Add(f, p)) => add_field(table, back, f, p, stage),
+        Ok(TableEdit::Cut(f, m)) => cut_fields(table, back, f, m, stage),
     }
 }
 

@@ -6,7 +6,7 @@ use Prim.Native.Nat.{ℕ, ◌-◌}
 use Rattle.update_places.specs.Place.{in_work}
 use Rattle.update_planning.proofs.Answers.{round, altered-further, altered_past, altered_as}
 use Rattle.update_planning.proofs.altered.Goals as goal
-use Rattle.update_planning.specs.declared.Plan.TheVariants.{Put}
+use Rattle.update_planning.specs.declared.TableEdit.TheVariants.{Put}
 
 pub returns-then-n-f : goal.returns-then-n-f
 returns-then-n-f c =
