@@ -66,6 +66,7 @@ fn float64(bits: u64) -> Meaning
     }
 }
 
+#[tactic(auto, unfolding(crate::specs::Meaning::of_float32))]
 fn float32_meaning(s: &[u8]) -> Meaning
     ensures { result ≡ of_float32 (number_at 4 1 s.now) }
 {
@@ -75,6 +76,7 @@ fn float32_meaning(s: &[u8]) -> Meaning
     }
 }
 
+#[tactic(auto, unfolding(crate::specs::Meaning::of_float64))]
 fn float64_meaning(s: &[u8]) -> Meaning
     ensures { result ≡ of_float64 (number_at 8 1 s.now) }
 {
@@ -84,6 +86,7 @@ fn float64_meaning(s: &[u8]) -> Meaning
     }
 }
 
+#[tactic(auto, using(crate::proofs::Whole::unshifted), unfolding(crate::specs::Meaning::of_integer))]
 fn integer_meaning(s: &[u8]) -> Meaning
     ensures { result ≡ of_integer (integer s.now) }
 {
@@ -94,6 +97,7 @@ fn integer_meaning(s: &[u8]) -> Meaning
 }
 
 // What the scalar of `end` bytes at the front means, `width` of them length bytes.
+#[tactic(auto, unfolding(crate::specs::Meaning::scalar_meaning))]
 fn scalar_meaning(s: &[u8], kind: Kind, width: usize, end: usize) -> Meaning
     requires { (1 + width + type_bytes kind ≤ end) × (end ≤ length s.now) }
     ensures { result ≡ scalar_meaning kind width s.now end }
@@ -102,8 +106,7 @@ fn scalar_meaning(s: &[u8], kind: Kind, width: usize, end: usize) -> Meaning
     match kind {
         Kind::Nil => Meaning::Nil,
         Kind::Boolean => Meaning::Boolean(s[0] == 0xc3),
-        Kind::Unsigned => integer_meaning(s),
-        Kind::Signed => integer_meaning(s),
+        Kind::Unsigned | Kind::Signed => integer_meaning(s),
         Kind::Float32 => float32_meaning(s),
         Kind::Float64 => float64_meaning(s),
         Kind::String => Meaning::String(from, end - from),
@@ -113,6 +116,7 @@ fn scalar_meaning(s: &[u8], kind: Kind, width: usize, end: usize) -> Meaning
 }
 
 // What the whole value of `end` bytes at the front means.
+#[tactic(auto, unfolding(crate::specs::Meaning::meaning))]
 fn meaning_of(s: &[u8], end: usize) -> Meaning
     requires { value 16 s.now ≡ Ok end }
     ensures { result ≡ meaning (form_of (get_or s.now 0 0)) s.now end }
