@@ -95,6 +95,7 @@ fn natural_of(s: &[u8], at: usize, more: usize) -> u64
 }
 
 // The unsigned number at `at`, by the form of its first byte.
+#[tactic(auto, using(msgpack_first_bytes::proofs::Logic::error_left), unfolding(crate::specs::Integer::unsigned, crate::specs::Integer::unsigned_by))]
 fn unsigned_by_form(s: &[u8], at: usize) -> Natural
     ensures { result ≡ shift_natural at (unsigned (drop at s.now)) }
 {
@@ -140,6 +141,8 @@ fn signed_of(s: &[u8], at: usize, more: usize) -> Int
 }
 
 // The integer of a signed form at `at`.
+// Stays: beside `unsigned_by_form`, which differs in kind and reading; one function over a closure would be longer.
+#[tactic(auto, using(msgpack_first_bytes::proofs::Logic::error_left), unfolding(crate::specs::Integer::signed, crate::specs::Integer::signed_by))]
 fn signed_at(s: &[u8], at: usize) -> Integer
     ensures { result ≡ shift_integer at (signed (drop at s.now)) }
 {
@@ -148,6 +151,7 @@ fn signed_at(s: &[u8], at: usize) -> Integer
 }
 
 // The integer at `at`.
+#[tactic(auto, using(crate::proofs::Laws::adding_shift), unfolding(crate::specs::Integer::adding, crate::specs::Integer::integer))]
 pub fn integer_at(s: &[u8], at: usize) -> Integer
     ensures { result ≡ shift_integer at (integer (drop at s.now)) }
 {

@@ -27,10 +27,3 @@ overflow_add-result c = let k = there (goal.at.overflow_add-result c).In_ok-more
 pub overflow_add-result-2 : goal.overflow_add-result-2
 overflow_add-result-2 c = let k = there (goal.at.overflow_add-result-2 c).In_ok-more in omega arith
 
-pub returns : goal.returns
-unfolding unsigned unsigned_by
-returns c = rw (← c.due_at.ensures, c.in_ok-more.was, c.natural_of.ensures.0)
-
-pub returns-in_err-more : goal.returns-in_err-more
-unfolding unsigned unsigned_by
-returns-in_err-more c = rw (error_left _ _ c.from_residual.ensures.1, ← c.due_at.ensures, c.in_err-more.was)
