@@ -169,11 +169,7 @@ fn container_at(s: &[u8], at: usize, e: u16, depth: usize) -> Result<Token, usiz
     if s.len() - at <= width {
         return Err(s.len());
     }
-    Ok(Token::Holds(
-        values_of(s, at, e),
-        at + 1 + width,
-        depth - 1,
-    ))
+    Ok(Token::Holds(values_of(s, at, e), at + 1 + width, depth - 1))
 }
 
 // What stands at `at`, where its first byte alone does not tell its length.
@@ -333,10 +329,7 @@ fn same_heads(s: &[u8], at: usize, next: usize, left: usize) -> Run
         end += size;
         rest -= 1;
     }
-    Run {
-        end,
-        left: rest,
-    }
+    Run { end, left: rest }
 }
 
 // One value at `at`, of depth at most `depth`, read as one item. Integers and short strings, the commonest, are

@@ -2,7 +2,7 @@
 use Rattle.std.specs.Prelude.{Some, slice_range}
 use native.Mathlib.Omega.{arith}
 use borrow.Author.Tests.{le-leb}
-use Prim.Native.Nat.{ℕ, ◌+◌, ◌-◌, ◌*◌, ◌^◌, ◌<◌, ◌≤◌}
+use Prim.Native.Nat.{ℕ, ◌+◌, ◌-◌, ◌≤◌}
 use mathlib.Core.Path.{◌≡◌, refl, ap, ◌∙◌}
 use lib.ListN.{length, take, drop, length-drop}
 use lib.Seq.{take_all}

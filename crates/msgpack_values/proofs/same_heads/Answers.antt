@@ -39,9 +39,9 @@ loop-end-preserved c =
       one = omega (arith, n.more);
       fewer = omega (arith, i.fewer);
       same =
-        λ d.
-            sym (items-whole (value d) a.s.now l.end (l.rest - 1 - 1) (l.end + (a.next - a.at)) (c.requires.0.alike l.end d n.room n.first-is n.second_is))
-            ∙ (rw e at (i.same d));
+          λ d.
+          sym (items-whole (value d) a.s.now l.end (l.rest - 1 - 1) (l.end + (a.next - a.at)) (c.requires.0.alike l.end d n.room n.first-is n.second_is))
+          ∙ (rw e at (i.same d));
     }
 
 pub overflow_add-end : goal.overflow_add-end
