@@ -11,6 +11,7 @@ ghost use Rattle.frame_rules.specs.Needs.{needs_of, line_at};
 use frames::{Line, MAX_32, MAX_64, MAX_BASE, Rule};
 use msgpack_scalars::Opening;
 
+#[tactic(auto, unfolding(frames::specs::Held::is_header))]
 fn has_header(v: &[u8], opening: Opening) -> bool
     ensures { result ≡ is_header (header (start_by opening) v.now) }
 {
@@ -20,9 +21,13 @@ fn has_header(v: &[u8], opening: Opening) -> bool
 fn at_most(v: &[u8], limit: u64) -> bool
     ensures { result ≡ suits (Rule.AtMost limit) (value_held (Rule.AtMost limit) v.now) }
 {
-    msgpack_scalars::unsigned_at(v, 0).is_ok_and(|(n, _)| n <= limit)
+    match msgpack_scalars::unsigned_at(v, 0) {
+        Ok((n, _)) => n <= limit,
+        Err(_) => false,
+    }
 }
 
+#[tactic(auto, unfolding(frames::specs::Held::suits, frames::specs::Held::value_held))]
 // Whether the bytes of a value suit what their key must hold.
 pub fn suits_rule(rule: Rule, v: &[u8]) -> bool
     ensures { result ≡ suits rule (value_held rule v.now) }
@@ -35,6 +40,7 @@ pub fn suits_rule(rule: Rule, v: &[u8]) -> bool
     }
 }
 
+#[tactic(auto, unfolding(crate::specs::Needs::needs_of, crate::specs::Needs::answer, frames::specs::Codes::required, frames::specs::Codes::is_error, frames::specs::Codes::among, frames::specs::Codes::codes))]
 // The body keys that a code requires; none where there is no such code.
 pub fn needs_of(code: u64) -> Option<&'static [usize]>
     ensures { option_map (λ s. s.now) result ≡ needs_of code }
@@ -57,6 +63,7 @@ pub fn needs_of(code: u64) -> Option<&'static [usize]>
     }
 }
 
+#[tactic(auto, unfolding(crate::specs::Needs::line_at))]
 // Document 01's tables: the i-th known key and what it must hold, header and then body, each rising;
 // past the last, key 0 and anything.
 pub fn line_of(i: usize) -> Line
