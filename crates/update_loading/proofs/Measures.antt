@@ -86,9 +86,9 @@ all_whole {v} {t} {from} {n} {l₀} {l} {at} {i} f e g =
     (rw (z, add-zero) at f.read, ended f g (rw z))
 
 -- the front of a table filled, and the rest of it as it was
-pub laid : {ps l table : List ℕ} {n : ℕ} → n ≤ length table → length l ≡ n → l ≡ tabled ps (take n table) → l ++ drop n table ≡ tabled ps table
+pub laid : (ps table : List ℕ) {l : List ℕ} {n : ℕ} → n ≤ length table → length l ≡ n → l ≡ tabled ps (take n table) → l ++ drop n table ≡ tabled ps table
 unfolding tabled
-laid {ps} {l} {table} {n} h k e =
+laid ps table {l} {n} h k e =
     let f = length-take-le n table h in
     let g = simp (length-append, length-drop) at (ap length e) in
     let m : length ps ≤ length (take n table) = omega arith in

@@ -26,10 +26,10 @@ pub returns-in_err-end-in-None : goal.returns-in_err-end-in-None
 returns-in_err-end-in-None c =
     let f = c.loop-entry.invariant in
     let b = next-broken (value_good field_depth) f.1 (omega arith) (omega arith) c.in_err-end-in-None.ensures in
-    (error_left _ _ c.from_residual.ensures.1 ∙ b.0, rw set-get_or (laid c.requires.0 f.0 b.1))
+    (error_left _ _ c.from_residual.ensures.1 ∙ b.0, rw set-get_or (laid _ c.args.table.now c.requires.0 f.0 b.1))
 
 pub returns : goal.returns
 returns c =
     let f = c.loop-entry.invariant in
     let b = all_whole f.1 (omega arith) (omega arith) in
-    (b.0, laid c.requires.0 f.0 b.1)
+    (b.0, laid _ c.args.table.now c.requires.0 f.0 b.1)
