@@ -10,7 +10,6 @@ use Rattle.msgpack_values.specs.declared.OptionalNumber.{OptionalNumber}
 use Rattle.frames.specs.declared.Place.{Place}
 use Rattle.frames.specs.declared.Rule.{Rule}
 use Rattle.frames.specs.declared.Rule.TheVariants.{AtMost, Array, String, Anything}
-use Rattle.msgpack_scalars.specs.declared.NoNumber.TheVariants.{Cut, Other}
 
 unfoldable pub all : {A : Type 0} → (A → Bool) → List A → Bool
 all p [] = true
@@ -31,8 +30,7 @@ view s p = take p.length (drop p.start s)
 -- the number that a view is, in any width
 unfoldable pub as_number : Natural → Option ℕ
 as_number (Ok (n, e)) = some n
-as_number (Err Cut) = none
-as_number (Err Other) = none
+as_number (Err e) = none
 
 unfoldable pub number_in : Bytes → Place → Option ℕ
 number_in s p = pick p.present (as_number (unsigned (view s p))) none
