@@ -1,60 +1,42 @@
-use Rattle.std.proofs.Common.{rules, ◌≡◌, ◌++◌, ◌+◌, ◌*◌, ◌<◌, ◌≤◌, length, take, drop, ℕ, ◌-◌, ◌/◌, ◌%◌, Bool, true, false, nat_eq, nat_lt, List, [], ◌∷◌, slice_index_or, slice_set, bit_and, bit_or, Fits, w8, w32, w64, Bor, MutBor}
-use Rattle.msgpack_writing.specs.Put.{put, next}
-use Rattle.frame_listing_fields.specs.Steps.{ended}
-use Rattle.frame_listing.specs.Listing.{max_input, room, frame_line, lines, listing}
-use Rattle.frame_listing.specs.Steps.{First}
+-- Input that is too long; no room; the heading and the lines.
+use native.Mathlib.Omega.{arith}
+use Rattle.msgpack_writing.proofs.Put.{refused}
+use Rattle.frame_listing.specs.Listing.{heading}
+use Rattle.frame_listing.proofs.Standing.{listing-long, listing-length, headed, both, next-within}
 use Rattle.frame_listing.proofs.list.Goals as goal
 
--- src/lib.rt:104:9
-pub write_bytes-requires : goal.write_bytes-requires
-write_bytes-requires c = ?
+pub returns-then-input-gt-MOST : goal.returns-then-input-gt-MOST
+returns-then-input-gt-MOST c =
+    let e = listing-long c.args.input.now c.if-input-gt-MOST.true in
+    record { value = rw e c.write_bytes.ensures; input_len_bound = (rw e (omega arith), next-within _ _ _ c.write_bytes.ensures.0) }
 
--- src/lib.rt:104:9
-pub returns-then-input-gt-MOST-clause-value : goal.returns-then-input-gt-MOST-clause-value
-returns-then-input-gt-MOST-clause-value c = ?
+pub returns-then-out-length : goal.returns-then-out-length
+returns-then-out-length c =
+    let a = c.args in
+    let e = listing-length a.input.now a.out.now c.if-input-gt-MOST.false in
+    let z = c.lay-length.ensures in
+    record { value = refused a.out.now 0 _ (omega (arith, e, z.0, c.if-out-length.true)); input_len_bound = (omega (arith, e, z.0, z.1.0), omega arith) }
 
--- src/lib.rt:104:9
-pub returns-then-input-gt-MOST-clause-input_len_bound :
-    goal.returns-then-input-gt-MOST-clause-input_len_bound
-returns-then-input-gt-MOST-clause-input_len_bound c = ?
-
--- src/lib.rt:106:29
-pub slice_bounds-lay-end : goal.slice_bounds-lay-end
-slice_bounds-lay-end c = ?
-
--- src/lib.rt:106:9
-pub lay-length-requires : goal.lay-length-requires
-lay-length-requires c = ?
-
--- src/lib.rt:107:20
-pub overflow_add-length : goal.overflow_add-length
-overflow_add-length c = ?
-
--- src/lib.rt:108:9
-pub returns-then-out-length-clause-value : goal.returns-then-out-length-clause-value
-returns-then-out-length-clause-value c = ?
-
--- src/lib.rt:108:9
-pub returns-then-out-length-clause-input_len_bound :
-    goal.returns-then-out-length-clause-input_len_bound
-returns-then-out-length-clause-input_len_bound c = ?
-
--- src/lib.rt:110:9
-pub write_bytes-from-requires : goal.write_bytes-from-requires
-write_bytes-from-requires c = ?
-
--- src/lib.rt:111:12
 pub lay-requires : goal.lay-requires
-lay-requires c = ?
+unfolding heading
+lay-requires c =
+    let a = c.args in
+    let e = headed a.input.now a.out.now c.if-input-gt-MOST.false c.write_bytes-from.ensures (omega (arith, c.if-out-length.false)) in
+    (c.if-input-gt-MOST.false, omega (arith, e))
 
--- src/lib.rt:111:5
 pub overflow_add-result : goal.overflow_add-result
-overflow_add-result c = ?
+unfolding heading
+overflow_add-result c =
+    let a = c.args in
+    let h = headed a.input.now a.out.now c.if-input-gt-MOST.false c.write_bytes-from.ensures (omega (arith, c.if-out-length.false)) in
+    record { fits = omega (arith, h, c.lay.ensures.1.0) }
 
--- src/lib.rt:98:1
-pub returns-clause-value : goal.returns-clause-value
-returns-clause-value c = ?
-
--- src/lib.rt:98:1
-pub returns-clause-input_len_bound : goal.returns-clause-input_len_bound
-returns-clause-input_len_bound c = ?
+pub returns : goal.returns
+unfolding heading
+returns c =
+    let a = c.args in
+    let g = listing-length a.input.now a.out.now c.if-input-gt-MOST.false in
+    let z = c.lay.ensures in
+    let y = c.lay-length.ensures in
+    let b = both a.input.now a.out.now c.if-input-gt-MOST.false c.write_bytes-from.ensures z.0 z.1.1 (omega (arith, z.0, y.0, c.if-out-length.false)) in
+    record { value = b; input_len_bound = (omega (arith, g, z.0, z.1.0), next-within _ _ _ b.0) }

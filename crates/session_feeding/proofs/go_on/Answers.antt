@@ -29,6 +29,6 @@ returns-in-Ok c =
     let b = take a.held a.carry.now in
     let l : a.held ≡ length b = sym (length-take-le a.held a.carry.now h.0) in
     let e = sym c.in-Ok.is ∙ c.size_over.ensures in (
-      ((refl, refl), (promised_stop b p e, promised_answer p a.carry.now a.held h.0 h.1 e refl c.keep-in-Ok.ensures c.view.ensures c.contents-answer.ensures)),
-      carry_is b p a.carry.now l (promised_stop b p e) (come b p e l ∙ promised_settled b p e) c.keep-in-Ok.ensures,
+      ((refl, refl), (promised_stop b p e, promised_answer p a.carry.now a.held h.0 h.1 e c.saturating_sub.ensures c.keep-in-Ok.ensures c.view.ensures c.contents-answer.ensures)),
+      carry_is b p a.carry.now l (promised_stop b p e) (rw c.saturating_sub.ensures (come b p e l) ∙ promised_settled b p e) c.keep-in-Ok.ensures,
     )

@@ -1,5 +1,6 @@
 -- The piece alone, or nine bytes of both.
 use Rattle.std.proofs.Common.{◌≡◌, ◌+◌, length, take, sym, refl, ap, ◌∙◌, arith, length-take-le}
+use borrow.Author.Tests.{eqb-true}
 use Rattle.frames.specs.Reading.{size_of}
 use Rattle.msgpack_first_bytes.specs.Bytes.{Bytes}
 use Rattle.msgpack_writing.specs.Put.{put}
@@ -8,7 +9,7 @@ use Rattle.session_feeding.proofs.Steps.{none-begun, size_both}
 use Rattle.session_feeding.proofs.size_over.Goals as goal
 
 pub returns-then-is_empty : goal.returns-then-is_empty
-returns-then-is_empty c = c.read_size.ensures ∙ none-begun c.args.begun.now _ ?
+returns-then-is_empty c = c.read_size.ensures ∙ none-begun c.args.begun.now _ (eqb-true _ 0 (sym c.is_empty.ensures ∙ c.if-is_empty.true))
 
 pub slice_bounds-write_bytes-end-2 : goal.slice_bounds-write_bytes-end-2
 slice_bounds-write_bytes-end-2 c =
