@@ -1,2 +1,3 @@
 -- The laws of computed numbers, each once. Assumes nothing.
+pub mod Found
 pub mod Numbers
