@@ -1,3 +1,2 @@
 -- The laws of computed numbers, each once. Assumes nothing.
-pub mod Found
 pub mod Numbers
