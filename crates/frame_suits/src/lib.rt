@@ -29,7 +29,12 @@ fn keys_suit(s: &[u8], table: &[Value], from: usize, to: usize) -> bool
     requires { (from ≤ to) × (to ≤ known_keys) }
     ensures { result ≡ suited (slice from to all_lines) s.now (place_in table.now) }
 {
-    (from..to).all(|i| key_suits(s, table, frame_rules::line_of(i)))
+    for i in from..to {
+        if !key_suits(s, table, frame_rules::line_of(i)) {
+            return false;
+        }
+    }
+    true
 }
 
 pub fn header_suits(s: &[u8], table: &[Value]) -> bool

@@ -1,5 +1,6 @@
 -- What a key holds, and what it must hold.
 use Rattle.std.specs.Prelude.{ℕ, ◌+◌, Bool, true, false, ◌&&◌, List, [], ◌∷◌, leb, eqb, length, take, drop, Some, None, Ok, Err}
+use Rattle.std.specs.List.{list_all}
 use Rattle.std.proofs.Math.Option.{Option, none, some}
 use Rattle.msgpack_first_bytes.specs.Bytes.{Bytes, pick}
 use Rattle.msgpack_scalars.specs.Start.{string_by, array_by}
@@ -11,9 +12,9 @@ use Rattle.frames.specs.declared.Place.{Place}
 use Rattle.frames.specs.declared.Rule.{Rule}
 use Rattle.frames.specs.declared.Rule.TheVariants.{AtMost, Array, String, Anything}
 
-unfoldable pub all : {A : Type 0} → (A → Bool) → List A → Bool
-all p [] = true
-all p (x ∷ xs) = p x && all p xs
+-- the library's word, which it knows of chains of iterators
+abbrev pub all : {A : Type 0} → (A → Bool) → List A → Bool
+all p xs = list_all p xs
 
 -- ---- what a key holds: nothing, a place outside its bytes (the writer may be given one), a number, or a value's encoding
 
