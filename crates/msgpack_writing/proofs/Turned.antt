@@ -22,13 +22,13 @@ turned w m b e h =
     let f : 2 ^ 64 - 1 - m ≡ 256 ^ w - 1 - m + b * 256 ^ w = omega arith in
     rw f (low_bytes w (256 ^ w - 1 - m) b)
 
-pub long-negative : (m : ℕ) → 32 ≤ m → m < 2 ^ 63 → long_form 0xd0 (2 * m) (2 ^ 64 - 1 - m) ≡ negative_form m
+pub long-negative : (m : ℕ) → 32 ≤ m → m < 2 ^ 63 → long_form 0xd0 (m + m) (2 ^ 64 - 1 - m) ≡ negative_form m
 unfolding negative_form
 long-negative m h k =
-    rw (le-ltb m 32 h) (by_ltb P m (2 ^ 7) (λ l. rw (lt-ltb (2 * m) (2 ^ 8) (omega arith), turned 1 m (2 ^ 56 - 1) refl (omega arith)))
-    (λ g. by_ltb P m (2 ^ 15) (λ l. rw (le-ltb (2 * m) (2 ^ 8) (omega arith), lt-ltb (2 * m) (2 ^ 16) (omega arith), turned 2 m (2 ^ 48 - 1) refl (omega arith)))
-    (λ g. by_ltb P m (2 ^ 31) (λ l. rw (le-ltb (2 * m) (2 ^ 8) (omega arith), le-ltb (2 * m) (2 ^ 16) (omega arith), lt-ltb (2 * m) (2 ^ 32) (omega arith), turned 4 m (2 ^ 32 - 1) refl (omega arith)))
-    (λ g. rw (le-ltb (2 * m) (2 ^ 8) (omega arith), le-ltb (2 * m) (2 ^ 16) (omega arith), le-ltb (2 * m) (2 ^ 32) (omega arith), lt-ltb m (2 ^ 63) k)))))
+    rw (le-ltb m 32 h) (by_ltb P m (2 ^ 7) (λ l. rw (lt-ltb (m + m) (2 ^ 8) (omega arith), turned 1 m (2 ^ 56 - 1) refl (omega arith)))
+    (λ g. by_ltb P m (2 ^ 15) (λ l. rw (le-ltb (m + m) (2 ^ 8) (omega arith), lt-ltb (m + m) (2 ^ 16) (omega arith), turned 2 m (2 ^ 48 - 1) refl (omega arith)))
+    (λ g. by_ltb P m (2 ^ 31) (λ l. rw (le-ltb (m + m) (2 ^ 8) (omega arith), le-ltb (m + m) (2 ^ 16) (omega arith), lt-ltb (m + m) (2 ^ 32) (omega arith), turned 4 m (2 ^ 32 - 1) refl (omega arith)))
+    (λ g. rw (le-ltb (m + m) (2 ^ 8) (omega arith), le-ltb (m + m) (2 ^ 16) (omega arith), le-ltb (m + m) (2 ^ 32) (omega arith), lt-ltb m (2 ^ 63) k)))))
   where
     P : Bytes → Type 0
-    P p = long_form 0xd0 (2 * m) (2 ^ 64 - 1 - m) ≡ p
+    P p = long_form 0xd0 (m + m) (2 ^ 64 - 1 - m) ≡ p

@@ -101,7 +101,7 @@ pub fn unsigned_length(n: u64) -> usize
     unsigned_head(n).width + 1
 }
 
-// The number -1 - m, in two's complement: all bits of m turned, in as many bytes as hold 2 * m, since the highest is the sign.
+// The number -1 - m, in two's complement: all bits of m turned, in as many bytes as hold m + m, since the highest is the sign.
 fn negative_head(m: u64) -> Head
     requires { m < 2 ^ 63 }
     ensures { tagged result.tag result.width result.number ≡ negative_form m }
@@ -109,7 +109,7 @@ fn negative_head(m: u64) -> Head
     if m < 32 {
         short_head(255 - m as u8)
     } else {
-        long_head(0xd0, 2 * m, u64::MAX - m)
+        long_head(0xd0, m + m, u64::MAX - m)
     }
 }
 
