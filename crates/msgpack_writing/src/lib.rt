@@ -3,7 +3,7 @@
 
 ghost use Rattle.std.specs.Prelude.{◌≡◌, ◌++◌, ◌+◌, ◌^◌, ◌<◌, ◌≤◌, length, drop, [], ◌∷◌};
 ghost use Rattle.msgpack_writing.specs.Forms.{tagged, long_form, unsigned_form, negative_form, string_header, count_header, array_header, map_header};
-ghost use Rattle.msgpack_writing.specs.Put.{put, next};
+ghost use Rattle.msgpack_writing.specs.Put.{Writes};
 
 // A first byte, and the number of which the `width` low bytes follow.
 #[derive(Clone, Copy)]
@@ -28,8 +28,7 @@ fn put_tagged(out: &mut [u8], tag: u8, n: u64, width: usize)
 
 // The tests subtract, since a sum of place and width could wrap.
 pub fn write_tagged(out: &mut [u8], at: usize, tag: u8, n: u64, width: usize) -> usize
-    ensures { (result ≡ next at (tagged tag width n) out.old)
-        × (out.new ≡ put at (tagged tag width n) out.old) }
+    ensures { Writes at (tagged tag width n) result out.old out.new }
 {
     if out.len() <= at {
         return at;
@@ -42,8 +41,7 @@ pub fn write_tagged(out: &mut [u8], at: usize, tag: u8, n: u64, width: usize) ->
 }
 
 fn write_head(out: &mut [u8], at: usize, h: Head) -> usize
-    ensures { (result ≡ next at (tagged h.tag h.width h.number) out.old)
-        × (out.new ≡ put at (tagged h.tag h.width h.number) out.old) }
+    ensures { Writes at (tagged h.tag h.width h.number) result out.old out.new }
 {
     write_tagged(out, at, h.tag, h.number, h.width)
 }
@@ -88,8 +86,7 @@ fn unsigned_head(n: u64) -> Head
 }
 
 pub fn write_unsigned(out: &mut [u8], at: usize, n: u64) -> usize
-    ensures { (result ≡ next at (unsigned_form n) out.old)
-        × (out.new ≡ put at (unsigned_form n) out.old) }
+    ensures { Writes at (unsigned_form n) result out.old out.new }
 {
     write_head(out, at, unsigned_head(n))
 }
@@ -115,8 +112,7 @@ fn negative_head(m: u64) -> Head
 
 // The number -1 - m; nothing where it is below -2^63.
 pub fn write_negative(out: &mut [u8], at: usize, m: u64) -> usize
-    ensures { (result ≡ next at (negative_form m) out.old)
-        × (out.new ≡ put at (negative_form m) out.old) }
+    ensures { Writes at (negative_form m) result out.old out.new }
 {
     if 0x8000_0000_0000_0000 <= m {
         return at;
@@ -137,8 +133,7 @@ fn string_head(n: u32) -> Head
 
 // What stands before a string of n bytes.
 pub fn write_string_header(out: &mut [u8], at: usize, n: u32) -> usize
-    ensures { (result ≡ next at (string_header n) out.old)
-        × (out.new ≡ put at (string_header n) out.old) }
+    ensures { Writes at (string_header n) result out.old out.new }
 {
     write_head(out, at, string_head(n))
 }
@@ -173,8 +168,7 @@ fn count_head(short: u8, long: u8, n: u32) -> Head
 
 // What stands before the n values of an array.
 pub fn write_array_header(out: &mut [u8], at: usize, n: u32) -> usize
-    ensures { (result ≡ next at (array_header n) out.old)
-        × (out.new ≡ put at (array_header n) out.old) }
+    ensures { Writes at (array_header n) result out.old out.new }
 {
     write_head(out, at, count_head(0x90, 0xdc, n))
 }
@@ -188,16 +182,14 @@ pub fn array_header_length(n: u32) -> usize
 
 // What stands before the n entries of a map.
 pub fn write_map_header(out: &mut [u8], at: usize, n: u32) -> usize
-    ensures { (result ≡ next at (map_header n) out.old)
-        × (out.new ≡ put at (map_header n) out.old) }
+    ensures { Writes at (map_header n) result out.old out.new }
 {
     write_head(out, at, count_head(0x80, 0xde, n))
 }
 
 // A copy of `bytes`.
 pub fn write_bytes(out: &mut [u8], at: usize, bytes: &[u8]) -> usize
-    ensures { (result ≡ next at bytes.now out.old)
-        × (out.new ≡ put at bytes.now out.old) }
+    ensures { Writes at bytes.now result out.old out.new }
 {
     if out.len() < at {
         return at;
