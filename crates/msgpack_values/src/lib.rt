@@ -93,6 +93,7 @@ fn length_at(s: &[u8], at: usize, width: usize) -> usize
 }
 
 // The entry of the first byte at `at`; past the end that of the unused byte, which is broken there too.
+#[tactic(auto, unfolding(crate::specs::Tokens::first_byte_entry))]
 fn first_byte_entry(s: &[u8], at: usize) -> u16
     ensures { result ≡ first_byte_entry s.now at }
 {
@@ -361,6 +362,7 @@ pub fn place_of(read: Read) -> OptionalNumber
 }
 
 // .. of the value at `at`, of depth at most `depth`.
+#[tactic(auto, unfolding(crate::specs::Spoiled::spoiled_at))]
 pub fn spoiled_at(s: &[u8], at: usize, depth: usize) -> OptionalNumber
     ensures { result ≡ spoiled_at depth at s.now }
 {
