@@ -93,6 +93,7 @@ fn length_at(s: &[u8], at: usize, width: usize) -> usize
 }
 
 // The entry of the first byte at `at`; past the end that of the unused byte, which is broken there too.
+#[tactic(auto, unfolding(crate::specs::Tokens::first_byte_entry))]
 fn first_byte_entry(s: &[u8], at: usize) -> u16
     ensures { result ≡ first_byte_entry s.now at }
 {
@@ -215,12 +216,12 @@ fn past_ones(s: &[u8], at: usize, stop: usize) -> usize
     requires { (at ≤ stop) × (stop ≤ length s.now) }
     ensures { (result ≤ stop) × Ones s.now at result }
 {
-    for end in at..stop {
-        if !msgpack_first_bytes::is_array_of_one(s[end]) {
-            return end;
-        }
+    let mut end = at;
+    // Stays: no for over at..stop, which takes 3.6 % more instructions where many arrays of one stand side by side.
+    while end < stop && msgpack_first_bytes::is_array_of_one(s[end]) {
+        end += 1;
     }
-    stop
+    end
 }
 
 // What is inside the arrays of one that begin at `at`, if any do.
@@ -361,6 +362,7 @@ pub fn place_of(read: Read) -> OptionalNumber
 }
 
 // .. of the value at `at`, of depth at most `depth`.
+#[tactic(auto, unfolding(crate::specs::Spoiled::spoiled_at))]
 pub fn spoiled_at(s: &[u8], at: usize, depth: usize) -> OptionalNumber
     ensures { result ≡ spoiled_at depth at s.now }
 {
