@@ -23,7 +23,6 @@ loop-i-preserved c =
     (omega arith, all-goes-on (λ (k : ℕ). is_some (encoded (locate (body_items a.frame a.bytes.now) k))) a.keys.now 0 l.i b.loop-i-test.true (sym b.holds.ensures ∙ c.if-not-holds.false) ∙ l.invariant.1)
 
 pub returns : goal.returns
-unfolding all
 returns c =
     let l = c.loop-i in
     let k = c.args.keys.now in
