@@ -48,8 +48,7 @@ pub fn number_in(s: &[u8], table: &[Value], key: usize) -> OptionalNumber
 pub fn all_there(table: &[Value], keys: &[usize]) -> bool
     ensures { result ≡ all (λ (k : ℕ). (place_in table.now k).present) keys.now }
 {
-    keys
-        .iter()
+    keys.iter()
         .all(|key| frame_tables::place_in(table, *key).present)
 }
 
