@@ -7,7 +7,7 @@ use Rattle.msgpack_numbers.specs.Number.{number as sum}
 use Rattle.msgpack_values.specs.Value.{value, one, container, too_deep, by_form, items, sized, payload}
 use Rattle.msgpack_scalars.specs.Integer.{due_in, due, natural_of, unsigned_by, unsigned}
 use Rattle.msgpack_scalars.specs.Header.{counted, header}
-use Rattle.frames.specs.Held.{all, view, as_number, number_in, is_header, suits, number_or_bytes, value_held, held_at, number_held, place_held}
+use Rattle.frames.specs.Held.{view, as_number, number_in, is_header, suits, number_or_bytes, value_held, held_at, number_held, place_held}
 use Rattle.frames.specs.Keys.{header_items, body_items, optional, code_in, frame_at, empty_frame}
 use Rattle.frames.specs.Codes.{codes, among, is_error, required}
 use Rattle.frames.specs.Maps.{keyed, entry_at, entries, entries_by, entries_at, keys, has, distinct, find}

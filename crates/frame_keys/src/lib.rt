@@ -12,7 +12,11 @@ use msgpack_values::OptionalNumber;
 fn number_content(n: OptionalNumber) -> Content
     ensures { result ≡ number_content n }
 {
-    if n.present { Content::Number(n.value) } else { Content::Absent }
+    if n.present {
+        Content::Number(n.value)
+    } else {
+        Content::Absent
+    }
 }
 
 // The tests subtract, since a sum of start and length could wrap.
@@ -28,6 +32,7 @@ fn place_content(bytes: &[u8], place: Place) -> Content
     Content::View(place)
 }
 
+// Stays: (d) frame and bytes as two parameters, here, in `frame_judging` and in `frame_writing`: `write_frame` is lent them apart, and each clause names each by itself.
 // What the i-th known key holds, in the order of document 01's tables; past the last nothing.
 #[tactic(auto, unfolding(frame_items::specs::Content::content_at))]
 fn content_of(frame: Frame, bytes: &[u8], i: usize) -> Content
@@ -61,5 +66,9 @@ pub fn known_key(frame: Frame, bytes: &[u8], i: usize) -> KnownKey
     ensures { result ≡ known_key_at frame bytes.now i }
 {
     let Line { key, rule } = frame_rules::line_of(i);
-    KnownKey { key, rule, content: content_of(frame, bytes, i) }
+    KnownKey {
+        key,
+        rule,
+        content: content_of(frame, bytes, i),
+    }
 }

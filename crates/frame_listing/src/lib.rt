@@ -57,7 +57,10 @@ fn first_line(left: &[u8], number: u64, line: &mut [u8]) -> Line
     ensures { First number left.now result line.new }
 {
     if left.is_empty() {
-        return Line { length: write_last(line, b"end\tclean\t", 0), bytes: 0 };
+        return Line {
+            length: write_last(line, b"end\tclean\t", 0),
+            bytes: 0,
+        };
     }
     let answer = frame_reading::read_frame(left);
     match answer.number {
@@ -67,8 +70,14 @@ fn first_line(left: &[u8], number: u64, line: &mut [u8]) -> Line
             let length = write_frame(line, number, frame.code, frame.sync, bytes as u64);
             Line { length, bytes }
         }
-        1 => Line { length: write_last(line, b"end\tincomplete\t", left.len() as u64), bytes: 0 },
-        n => Line { length: write_last(line, b"end\trefused\t", u64::from(n)), bytes: 0 },
+        1 => Line {
+            length: write_last(line, b"end\tincomplete\t", left.len() as u64),
+            bytes: 0,
+        },
+        n => Line {
+            length: write_last(line, b"end\trefused\t", u64::from(n)),
+            bytes: 0,
+        },
     }
 }
 
@@ -82,6 +91,7 @@ fn lay(input: &[u8], out: &mut [u8], from: usize) -> usize
     let mut to: usize = 0;
     let mut at: usize = 0;
     let mut number: u64 = 1;
+    // Stays: (d) a loop with a cursor: a frame's length is known when it is read, so that no range or iterator steps from one to the next.
     loop {
         let Line { length, bytes } = first_line(&input[at..], number, &mut line);
         write_bytes(out, from + to, &line[..length]);
