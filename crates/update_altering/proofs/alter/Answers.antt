@@ -1,26 +1,19 @@
--- Each change by what it does to the field.
-use mathlib.Core.Path.{refl}
-use Rattle.update_altering.specs.Altering.{changed}
-use Rattle.update_altering.proofs.Edits as Edits
+-- What is made in the free bytes is made behind those in use.
+use Rattle.msgpack_first_bytes.proofs.Logic.{error_left}
+use Rattle.update_altering.proofs.Edits.{at_place}
 use Rattle.update_altering.proofs.alter.Goals as goal
 
-pub returns-in-Sum : goal.returns-in-Sum
-unfolding changed
-returns-in-Sum c =
+pub returns-in_err-made : goal.returns-in_err-made
+returns-in_err-made c =
     let a = c.args in
-    Edits.at_place a.tuple.now a.list.now a.work.now a.used a.old a.end c.start_of-at.ensures.0 c.length_of-size.ensures.0 c.part_of-taken.ensures
-    c.in-Sum.is c.put_computed.ensures c.sum_of.ensures.0
+    let s = c.split_at_mut-work.ensures in
+    rw (error_left _ _ c.from_residual.ensures.1) (
+    at_place a.tuple.now a.list.now a.work.now a.used a.old a.end a.change c.start_of.ensures.0 c.length_of.ensures.0 c.min-taken.ensures s.front s.back
+    c.in_err-made.ensures.edit c.in_err-made.ensures.some)
 
-pub returns-in-Bits : goal.returns-in-Bits
-unfolding changed
-returns-in-Bits c =
+pub returns : goal.returns
+returns c =
     let a = c.args in
-    Edits.at_place a.tuple.now a.list.now a.work.now a.used a.old a.end c.start_of-at.ensures.0 c.length_of-size.ensures.0 c.part_of-taken-in-Bits.ensures
-    c.in-Bits.is c.put_computed-in-Bits.ensures c.bits_of.ensures.0
-
-pub returns-in-Splice : goal.returns-in-Splice
-unfolding changed
-returns-in-Splice c =
-    let a = c.args in
-    Edits.at_place a.tuple.now a.list.now a.work.now a.used a.old a.end c.start_of-at.ensures.0 c.length_of-size.ensures.0 refl
-    c.in-Splice.is (rw c.bytes_of-argument.ensures at c.splice.ensures) refl
+    let s = c.split_at_mut-work.ensures in
+    at_place a.tuple.now a.list.now a.work.now a.used a.old a.end a.change c.start_of.ensures.0 c.length_of.ensures.0 c.min-taken.ensures s.front s.back
+    c.in_ok-made.ensures.edit c.in_ok-made.ensures.some

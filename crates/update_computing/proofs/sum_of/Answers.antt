@@ -1,16 +1,16 @@
 -- The field and the argument, as integers.
-use Rattle.update_places.specs.Place.{bytes_from}
-use Rattle.update_computing.proofs.Numbers as Numbers
+use mathlib.Core.Path.{◌∙◌}
+use Rattle.msgpack_first_bytes.proofs.Logic.{error_left}
+use Rattle.update_computing.proofs.Numbers.{sum_unsuited, sum_is}
 use Rattle.update_computing.proofs.sum_of.Goals as goal
+use Rattle.update_computing.proofs.sum_of.Goals.{then-minus, else-minus}
 
-pub returns-in_default : goal.returns-in_default
-returns-in_default c =
-    Numbers.sum_unsuited c.args.minus c.args.v (bytes_from c.args.tuple.now c.args.list.now c.args.work.now c.args.at c.args.size) c.integer_in.ensures c.in_default.is
-
-pub returns-in_default-total : goal.returns-in_default-total
-returns-in_default-total c =
-    Numbers.sum_is c.args.minus c.args.v (bytes_from c.args.tuple.now c.args.list.now c.args.work.now c.args.at c.args.size) c.integer_in.ensures c.in-Some.is c.total.ensures c.in_default-total.is
+pub returns-in_err-z : goal.returns-in_err-z
+returns-in_err-z c =
+    rw (error_left _ _ c.from_residual.ensures.1) (sum_unsuited c.args.minus c.args.v _ c.bytes.ensures c.any_integer.ensures c.in_err-z.ensures.value)
 
 pub returns : goal.returns
 returns c =
-    Numbers.sum_is c.args.minus c.args.v (bytes_from c.args.tuple.now c.args.list.now c.args.work.now c.args.at c.args.size) c.integer_in.ensures c.in-Some.is c.total.ensures c.in-Some-total.is
+    rw c.ok_or-2.ensures.value (
+    sum_is c.args.minus c.args.v _ c.bytes.ensures c.any_integer.ensures c.in_ok-z.ensures.value
+    (elim c.if-minus.branch [ then-minus w ↦ rw w.if-minus.true (w.sum-is ∙ w.subtract-sum.ensures) | else-minus w ↦ rw w.if-minus.false (w.sum-is ∙ w.add-sum.ensures) ]))
