@@ -1,13 +1,14 @@
 -- 1 to 5: the size number, the header and the body. Assumes nothing.
 use Rattle.std.specs.Prelude.{Some, None, Ok, Err}
 use mathlib.Core.Path.{◌≡◌, refl, sym, subst, ◌∙◌}
+use mathlib.Core.Bool.{Bool, true, false}
 use Prim.Native.Nat.{ℕ, ◌+◌, ◌-◌, ◌<◌, ◌≤◌}
 use native.Mathlib.Omega.{arith}
-use borrow.Author.Tests.{le-leb, lt-leb, eq-eqb, ne_eqb}
-use lib.Dec.{eqb}
+use borrow.Author.Tests.{le-leb, lt-leb, eq-eqb, ne_eqb, ltb-true, ltb-false}
+use lib.Dec.{ltb, eqb}
 use lib.ListN.{length, take, drop, length-drop, drop_of_length-le}
 use lib.Seq.{drop-cons}
-use Rattle.msgpack_first_bytes.specs.Bytes.{Bytes}
+use Rattle.msgpack_first_bytes.specs.Bytes.{Bytes, pick}
 use Rattle.msgpack_values.specs.Value.{shift, value, Read}
 use Rattle.msgpack_values.specs.Spoiled.{place_of, spoiled_at}
 use Rattle.msgpack_values.proofs.Local.{shift-whole, value_good, value_pos}
@@ -18,9 +19,27 @@ use Rattle.frames.specs.Maps.{entries_at}
 use Rattle.frames.specs.Cascade.{check, whole}
 use Rattle.frames.proofs.Sizes.{Told, size_told}
 use Rattle.frames.specs.Reading.{refuse_at, refuse, broken, by_entries, body_value, body_entries, in_frame, size_by, size_of, by_size, frame_read}
-use Rattle.frame_reading.specs.Steps.{answer_of, whole_by, whole_at, entries_in}
+use Rattle.frame_reading.specs.Steps.{answer_of, whole_by, whole_at, body_at, entries_in}
 use Rattle.frame_reading.specs.declared.Refusal.{Refusal}
 use Rattle.frame_reading.specs.declared.Refusal.TheVariants.{Broken}
+
+-- ---- the body's place
+
+pub body_there : (s : Bytes) (at from : ℕ) → Some from ≡ body_at s at → (at < length s) × (from ≡ at)
+unfolding body_at
+body_there s at from e = go (ltb at (length s)) refl e
+  where
+    go : (b : Bool) → ltb at (length s) ≡ b → Some from ≡ pick b (Some at) None → (at < length s) × (from ≡ at)
+    go true q e = (ltb-true at (length s) q, cc)
+    go false q e = impossible cc
+
+pub body_missing : (s : Bytes) (at : ℕ) → None ≡ body_at s at → length s ≤ at
+unfolding body_at
+body_missing s at e = go (ltb at (length s)) refl e
+  where
+    go : (b : Bool) → ltb at (length s) ≡ b → None ≡ pick b (Some at) None → length s ≤ at
+    go true q e = impossible cc
+    go false q e = ltb-false at (length s) q
 
 -- ---- header and body
 

@@ -1,7 +1,7 @@
 -- Inner: what the steps answer, and the body's entries.
-use Rattle.std.specs.Prelude.{ℕ, List, [], drop, Option as Maybe, Some, None, Result, Ok, Err}
+use Rattle.std.specs.Prelude.{ℕ, List, [], ltb, length, drop, Option as Maybe, Some, None, Result, Ok, Err}
 use Rattle.std.proofs.Math.Option.{Option, some}
-use Rattle.msgpack_first_bytes.specs.Bytes.{Bytes}
+use Rattle.msgpack_first_bytes.specs.Bytes.{Bytes, pick}
 use Rattle.msgpack_values.specs.Value.{value, shift, Read}
 use Rattle.msgpack_values.specs.Spoiled.{place_of}
 use Rattle.frames.specs.declared.Frame.{Frame}
@@ -42,6 +42,10 @@ whole_by (Err p) = Err (Broken (place_of (Err p)))
 
 unfoldable pub whole_at : Bytes → ℕ → Result ℕ Refusal
 whole_at s at = whole_by (shift at (value max_depth (drop at s)))
+
+-- a body, where bytes are left
+unfoldable pub body_at : Bytes → ℕ → Maybe ℕ
+body_at s at = pick (ltb at (length s)) (Some at) None
 
 -- "A missing body counts as an empty map."
 unfoldable pub entries_in : Bytes → Maybe ℕ → Option (List Entry)

@@ -8,7 +8,7 @@ ghost use Rattle.frames.specs.Limits.{held_depth};
 ghost use Rattle.frames.specs.Maps.{entries_at};
 ghost use Rattle.frames.specs.Reading.{refuse_at, refuse, by_places, by_entries, in_frame, size_of, frame_read};
 ghost use Rattle.frame_tables.specs.Tables.{place_in};
-ghost use Rattle.frame_reading.specs.Steps.{answer_of, both_tabled, whole_at, entries_in};
+ghost use Rattle.frame_reading.specs.Steps.{answer_of, both_tabled, whole_at, body_at, entries_in};
 
 use frame_tables::{KEYS, NO_VALUE, Untabled, Value};
 use frames::{Frame, FrameAnswer, Size};
@@ -148,19 +148,27 @@ fn whole_at(s: &[u8], at: usize) -> Result<usize, Refusal>
     read.map_err(|_| Refusal::Broken(msgpack_values::place_of(read)))
 }
 
+// Where a body begins, if one follows the header.
+#[tactic(auto, unfolding(crate::specs::Steps::body_at))]
+fn body_at(s: &[u8], at: usize) -> Option<usize>
+    ensures { result ≡ body_at s.now at }
+{
+    if at < s.len() { Some(at) } else { None }
+}
+
 // 4 to 10: `s` is one frame and nothing more, its header at `at`.
 fn contents_of(s: &[u8], at: usize) -> Result<Frame, Refusal>
     ensures { answer_of (length s.now) result ≡ in_frame s.now at }
 {
     let end = whole_at(s, at)?;
-    if s.len() <= end {
+    let Some(from) = body_at(s, end) else {
         return judge(s, at, None);
-    }
-    let last = whole_at(s, end)?;
+    };
+    let last = whole_at(s, from)?;
     if last < s.len() {
         return Err(Refusal::Followed);
     }
-    judge(s, at, Some(end))
+    judge(s, at, Some(from))
 }
 
 pub fn read_contents(s: &[u8], at: usize) -> FrameAnswer
