@@ -70,8 +70,8 @@ pub fn refused(number: u32) -> FrameAnswer
     refused_at(number, NO_PLACE)
 }
 
-#[tactic(auto, unfolding(crate::specs::Steps::answer_of, frames::specs::Reading::accept))]
 // What C is told of the contents of `length` bytes.
+#[tactic(auto, unfolding(crate::specs::Steps::answer_of, frames::specs::Reading::accept))]
 fn answer_of(length: usize, read: Result<Frame, Refusal>) -> FrameAnswer
     ensures { result ≡ answer_of length read }
 {
@@ -139,8 +139,8 @@ fn judge(s: &[u8], at: usize, body_at: Option<usize>) -> Result<Frame, Refusal>
     by_places(s, &header, &body)
 }
 
-#[tactic(auto, unfolding(crate::specs::Steps::whole_at, crate::specs::Steps::whole_by))]
 // The end of the value at `at`; 4 where it is broken.
+#[tactic(auto, unfolding(crate::specs::Steps::whole_at, crate::specs::Steps::whole_by))]
 fn whole_at(s: &[u8], at: usize) -> Result<usize, Refusal>
     ensures { result ≡ whole_at s.now at }
 {
