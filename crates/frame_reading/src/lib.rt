@@ -47,6 +47,7 @@ pub fn read_size(s: &[u8]) -> Size
     }
 }
 
+#[tactic(auto, unfolding(frames::specs::Keys::empty_frame, frames::specs::Keys::frame_at, frames::specs::Keys::optional, frames::specs::Held::number_in))]
 pub fn empty_frame() -> Frame
     ensures { result ≡ empty_frame }
 {
@@ -64,6 +65,8 @@ fn refused_at(number: u32, place: OptionalNumber) -> FrameAnswer
     }
 }
 
+// Stays: a number and no Refusal, since read_size's and session_feeding's refusals come here too, and C reads the number.
+#[tactic(auto, unfolding(frames::specs::Reading::refuse))]
 pub fn refused(number: u32) -> FrameAnswer
     ensures { result ≡ refuse number }
 {
