@@ -53,6 +53,7 @@ pub fn all_there(table: &[Value], keys: &[usize]) -> bool
 }
 
 // The record, whose code was judged before.
+#[tactic(auto, unfolding(frames::specs::Keys::frame_at))]
 pub fn frame_of(code: u64, s: &[u8], header: &[Value], body: &[Value]) -> Frame
     ensures { result ≡ frame_at code s.now (place_in header.now) (place_in body.now) }
 {
