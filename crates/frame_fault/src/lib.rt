@@ -2,7 +2,7 @@
 #![tactic(auto)]
 
 ghost use Rattle.std.specs.Prelude.{◌≡◌, ◌∷◌, ◌++◌, ◌+◌, ◌≤◌, length, take};
-ghost use Rattle.msgpack_writing.specs.Put.{put, next};
+ghost use Rattle.msgpack_writing.specs.Put.{Writes};
 ghost use Rattle.frame_listing_fields.specs.Text.{text, decimal};
 ghost use Rattle.frame_fault_fields.specs.Dump.{dump};
 ghost use Rattle.frame_fault_fields.specs.Steps.{Lays};
@@ -127,8 +127,7 @@ fn compose(input: &[u8], out: &mut [u8]) -> usize
 
 // The report, at the front of `out`: how long it is; 0, and nothing written, where it has no room.
 pub fn report(input: &[u8], out: &mut [u8]) -> usize
-    ensures value { (result ≡ next 0 (report input.now) out.old)
-        × (out.new ≡ put 0 (report input.now) out.old) }
+    ensures value { Writes 0 (report input.now) result out.old out.new }
     ensures input_len_bound { (length (report input.now) ≤ room) × (result ≤ length out.old) }
 {
     if frame_listing::MOST < input.len() {

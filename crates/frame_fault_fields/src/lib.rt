@@ -2,7 +2,7 @@
 #![tactic(auto)]
 
 ghost use Rattle.std.specs.Prelude.{◌≡◌, ◌+◌, ◌<◌};
-ghost use Rattle.msgpack_writing.specs.Put.{put, next};
+ghost use Rattle.msgpack_writing.specs.Put.{Writes};
 ghost use Rattle.frame_fault_fields.specs.Words.{words_of};
 ghost use Rattle.frame_fault_fields.specs.Dump.{hex_digit, between, column, margin, cell, cells, dump_start, dump};
 ghost use Rattle.frame_fault_fields.specs.Steps.{Lays};
@@ -41,7 +41,7 @@ fn words_of(number: u32) -> &'static [u8]
 }
 
 pub fn write_words(out: &mut [u8], at: usize, number: u32) -> usize
-    ensures { (result ≡ next at (words_of number) out.old) × (out.new ≡ put at (words_of number) out.old) }
+    ensures { Writes at (words_of number) result out.old out.new }
 {
     write_bytes(out, at, words_of(number))
 }
@@ -58,7 +58,7 @@ fn hex_digit(d: u8) -> u8
 fn write_byte(out: &mut [u8], at: usize, b: u8, marked: bool) -> usize
     ensures { Lays out.old at (between marked b) out.new result }
 {
-    let high = hex_digit(b / 16);
+    let high = hex_digit(b >> 4);
     let low = hex_digit(b % 16);
     let cell = if marked {
         [b'>', high, low, b'<']
@@ -115,7 +115,7 @@ fn dump_start(place: OptionalNumber) -> usize
     ensures { result ≡ dump_start place }
 {
     if place.present {
-        ((place.value / 16).saturating_sub(2) * 16) as usize
+        ((place.value >> 4).saturating_sub(2) << 4) as usize
     } else {
         0
     }
@@ -141,8 +141,7 @@ fn lay_cells(
 
 // Five lines of `frame`, around the place where there is one.
 pub fn write_dump(out: &mut [u8], at: usize, frame: &[u8], place: OptionalNumber) -> usize
-    ensures { (result ≡ next at (dump frame.now place) out.old)
-        × (out.new ≡ put at (dump frame.now place) out.old) }
+    ensures { Writes at (dump frame.now place) result out.old out.new }
 {
     let from = dump_start(place);
     if DUMP_LIMIT < from {

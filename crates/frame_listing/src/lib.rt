@@ -2,7 +2,7 @@
 #![tactic(auto)]
 
 ghost use Rattle.std.specs.Prelude.{◌≡◌, ◌++◌, ◌+◌, ◌*◌, ◌<◌, ◌≤◌, length, take, drop};
-ghost use Rattle.msgpack_writing.specs.Put.{put, next};
+ghost use Rattle.msgpack_writing.specs.Put.{put, Writes};
 ghost use Rattle.frame_listing_fields.specs.Steps.{ended};
 ghost use Rattle.frame_listing.specs.Listing.{max_input, room, frame_line, lines, listing};
 ghost use Rattle.frame_listing.specs.Steps.{First};
@@ -23,8 +23,7 @@ const HEADING: &[u8] = b"frame\tkind\tsync\tbytes\n";
 // The line of a frame: its number, kind, sync and bytes.
 fn write_frame(out: &mut [u8], number: u64, code: u64, sync: OptionalNumber, bytes: u64) -> usize
     requires { length (frame_line number code sync bytes) ≤ length out.old }
-    ensures { (result ≡ next 0 (frame_line number code sync bytes) out.old)
-        × (out.new ≡ put 0 (frame_line number code sync bytes) out.old) }
+    ensures { Writes 0 (frame_line number code sync bytes) result out.old out.new }
 {
     let mut at = write_number(out, 0, number, b'\t');
     at = write_kind(out, at, code);
@@ -36,8 +35,7 @@ fn write_frame(out: &mut [u8], number: u64, code: u64, sync: OptionalNumber, byt
 // The last line, whose first two fields are given with the tabs after them.
 fn write_last(out: &mut [u8], how: &[u8], n: u64) -> usize
     requires { length (how.now ++ ended n 10) ≤ length out.old }
-    ensures { (result ≡ next 0 (how.now ++ ended n 10) out.old)
-        × (out.new ≡ put 0 (how.now ++ ended n 10) out.old) }
+    ensures { Writes 0 (how.now ++ ended n 10) result out.old out.new }
 {
     let at = write_bytes(out, 0, how);
     write_number(out, at, n, b'\n')
@@ -106,8 +104,7 @@ fn lay(input: &[u8], out: &mut [u8], from: usize) -> usize
 
 // The listing, at the front of `out`: how long it is; 0, and nothing written, where it has no room.
 pub fn list(input: &[u8], out: &mut [u8]) -> usize
-    ensures value { (result ≡ next 0 (listing input.now) out.old)
-        × (out.new ≡ put 0 (listing input.now) out.old) }
+    ensures value { Writes 0 (listing input.now) result out.old out.new }
     ensures input_len_bound { (length (listing input.now) ≤ room) × (result ≤ length out.old) }
 {
     if MOST < input.len() {

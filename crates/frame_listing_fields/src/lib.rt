@@ -2,7 +2,7 @@
 #![tactic(auto)]
 
 ghost use Rattle.std.specs.Prelude.{◌≡◌, ◌++◌, ◌≤◌, length, drop};
-ghost use Rattle.msgpack_writing.specs.Put.{put, next};
+ghost use Rattle.msgpack_writing.specs.Put.{Writes};
 ghost use Rattle.frame_listing_fields.specs.Text.{text};
 ghost use Rattle.frame_listing_fields.specs.Names.{kind_of};
 ghost use Rattle.frame_listing_fields.specs.Sync.{sync_text};
@@ -31,7 +31,7 @@ fn spell(n: u64, end: u8, text: &mut [u8]) -> usize
 
 // A number, and the byte that ends its field.
 pub fn write_number(out: &mut [u8], at: usize, n: u64, end: u8) -> usize
-    ensures { (result ≡ next at (ended n end) out.old) × (out.new ≡ put at (ended n end) out.old) }
+    ensures { Writes at (ended n end) result out.old out.new }
 {
     let mut text = [0u8; 21];
     let from = spell(n, end, &mut text);
@@ -62,8 +62,7 @@ fn kind_of(code: u64) -> &'static [u8]
 }
 
 pub fn write_kind(out: &mut [u8], at: usize, code: u64) -> usize
-    ensures { (result ≡ next at (kind_of code) out.old)
-        × (out.new ≡ put at (kind_of code) out.old) }
+    ensures { Writes at (kind_of code) result out.old out.new }
 {
     write_bytes(out, at, kind_of(code))
 }
@@ -71,8 +70,7 @@ pub fn write_kind(out: &mut [u8], at: usize, code: u64) -> usize
 // A sync, and the tab after it.
 #[tactic(auto, unfolding(crate::specs::Sync::sync_text))]
 pub fn write_sync(out: &mut [u8], at: usize, sync: OptionalNumber) -> usize
-    ensures { (result ≡ next at (sync_text sync ++ text "\t") out.old)
-        × (out.new ≡ put at (sync_text sync ++ text "\t") out.old) }
+    ensures { Writes at (sync_text sync ++ text "\t") result out.old out.new }
 {
     if sync.present {
         write_number(out, at, sync.value, b'\t')

@@ -6,7 +6,7 @@ ghost use Rattle.frames.specs.Held.{encoded};
 ghost use Rattle.frames.specs.Keys.{header_items, body_items};
 ghost use Rattle.frames.specs.Writing.{pairs, map_form, contents, frame_form, Call, frame_write_call};
 ghost use Rattle.msgpack_writing.specs.Forms.{unsigned_form};
-ghost use Rattle.msgpack_writing.specs.Put.{put, next};
+ghost use Rattle.msgpack_writing.specs.Put.{Writes};
 ghost use Rattle.frame_items.specs.Content.{held_of};
 ghost use Rattle.frame_judging.specs.Parts.{items_of, pair_bytes, pair_of};
 ghost use Rattle.frame_writing.specs.Answer.{written_of, call};
@@ -30,8 +30,7 @@ enum Refusal {
 // A key below 128 is one byte; what it holds follows.
 fn put_number(out: &mut [u8], at: usize, key: u8, n: u64) -> usize
     requires { at + length (key ∷ unsigned_form n) ≤ length out.old }
-    ensures { (result ≡ next at (key ∷ unsigned_form n) out.old)
-        × (out.new ≡ put at (key ∷ unsigned_form n) out.old) }
+    ensures { Writes at (key ∷ unsigned_form n) result out.old out.new }
 {
     let a = msgpack_writing::write_tagged(out, at, key, 0, 0);
     msgpack_writing::write_unsigned(out, a, n)
@@ -39,8 +38,7 @@ fn put_number(out: &mut [u8], at: usize, key: u8, n: u64) -> usize
 
 fn put_view(out: &mut [u8], at: usize, key: u8, v: &[u8]) -> usize
     requires { at + length (key ∷ v.now) ≤ length out.old }
-    ensures { (result ≡ next at (key ∷ v.now) out.old)
-        × (out.new ≡ put at (key ∷ v.now) out.old) }
+    ensures { Writes at (key ∷ v.now) result out.old out.new }
 {
     let a = msgpack_writing::write_tagged(out, at, key, 0, 0);
     msgpack_writing::write_bytes(out, a, v)
@@ -49,8 +47,7 @@ fn put_view(out: &mut [u8], at: usize, key: u8, v: &[u8]) -> usize
 // A known key with what it holds; nothing where it is absent.
 fn put_pair(out: &mut [u8], at: usize, key: u8, content: Content, bytes: &[u8]) -> usize
     requires { at + length (pair_of key (encoded (held_of bytes.now content))) ≤ length out.old }
-    ensures { (result ≡ next at (pair_of key (encoded (held_of bytes.now content))) out.old)
-        × (out.new ≡ put at (pair_of key (encoded (held_of bytes.now content))) out.old) }
+    ensures { Writes at (pair_of key (encoded (held_of bytes.now content))) result out.old out.new }
 {
     match content {
         Content::Absent | Content::Outside => at,
@@ -62,8 +59,7 @@ fn put_pair(out: &mut [u8], at: usize, key: u8, content: Content, bytes: &[u8]) 
 // The pairs of a part.
 fn put_pairs(out: &mut [u8], at: usize, frame: Frame, bytes: &[u8], part: Part) -> usize
     requires { at + length (pair_bytes (items_of part frame bytes.now)) ≤ length out.old }
-    ensures { (result ≡ next at (pair_bytes (items_of part frame bytes.now)) out.old)
-        × (out.new ≡ put at (pair_bytes (items_of part frame bytes.now)) out.old) }
+    ensures { Writes at (pair_bytes (items_of part frame bytes.now)) result out.old out.new }
 {
     let (from, to) = frame_judging::keys_of(part);
     let mut a = at;
@@ -78,8 +74,7 @@ fn put_pairs(out: &mut [u8], at: usize, frame: Frame, bytes: &[u8], part: Part) 
 fn put_map(out: &mut [u8], at: usize, frame: Frame, bytes: &[u8], part: Part, count: u32) -> usize
     requires { (count ≡ length (pairs (items_of part frame bytes.now)))
         × (at + length (map_form (pairs (items_of part frame bytes.now))) ≤ length out.old) }
-    ensures { (result ≡ next at (map_form (pairs (items_of part frame bytes.now))) out.old)
-        × (out.new ≡ put at (map_form (pairs (items_of part frame bytes.now))) out.old) }
+    ensures { Writes at (map_form (pairs (items_of part frame bytes.now))) result out.old out.new }
 {
     let a = msgpack_writing::write_map_header(out, at, count);
     put_pairs(out, a, frame, bytes, part)
@@ -97,8 +92,7 @@ fn put_frame(
     requires { ((size ≡ length (contents (header_items frame) (body_items frame bytes.now)))
         × ((header ≡ length (pairs (header_items frame))) × (body ≡ length (pairs (body_items frame bytes.now)))))
         × (length (frame_form (contents (header_items frame) (body_items frame bytes.now))) ≤ length out.old) }
-    ensures { (result ≡ next 0 (frame_form (contents (header_items frame) (body_items frame bytes.now))) out.old)
-        × (out.new ≡ put 0 (frame_form (contents (header_items frame) (body_items frame bytes.now))) out.old) }
+    ensures { Writes 0 (frame_form (contents (header_items frame) (body_items frame bytes.now))) result out.old out.new }
 {
     let a = msgpack_writing::write_tagged(out, 0, 0xce, size as u64, 4);
     let b = put_map(out, a, frame, bytes, Part::Header, header);
