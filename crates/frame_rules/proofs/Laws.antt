@@ -15,6 +15,10 @@ use Rattle.frame_rules.specs.Needs.{answer, needs_of}
 
 -- ---- 8 and 10
 
+pub error_code : (c : ℕ) → 0x8000 ≤ c → c < 0x9000 → required c ≡ some (0x31 ∷ [])
+unfolding required is_error
+error_code c h k = rw (le-leb 0x8000 c h, le-leb c 0x8fff (omega arith))
+
 no_error : (c : ℕ) → (c < 0x8000) ⊎ (0x8fff < c) → (leb 0x8000 c && leb c 0x8fff) ≡ false
 no_error c (inl h) = rw (lt-leb 0x8000 c h)
 no_error c (inr h) = rw (le-leb 0x8000 c (omega arith), lt-leb c 0x8fff h)
