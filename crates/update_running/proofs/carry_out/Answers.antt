@@ -1,6 +1,6 @@
 -- `update_running::carry_out` meets its contract.
 use Rattle.std.specs.Prelude.{◌≡◌, Err}
-use mathlib.Core.Path.{refl, sym, ap, ◌∙◌}
+use mathlib.Core.Path.{refl, sym, ap}
 use mathlib.Core.Logic.{◌⊎◌, inl}
 use mathlib.Core.List.{List, ◌++◌}
 use Prim.Native.Nat.{ℕ, ◌-◌, ◌<◌}

@@ -1,5 +1,6 @@
 use Rattle.std.specs.Prelude.{◌≡◌, Ok, Err, MatchResult, IsErrAnd}
-use mathlib.Core.Path.{refl, ap}
+use Rattle.std.proofs.Common.{rules}
+use mathlib.Core.Path.{ap}
 use Prim.Native.Nat.{ℕ}
 use native.Mathlib.Omega.{arith}
 use Rattle.tuples.specs.declared.Refusal.{Refusal}
@@ -20,4 +21,4 @@ mapped (Err e) (Ok z) Q q h = absurd h
 mapped (Err e) (Err u) Q q h = ap Err (q e u h)
 
 pub returns : goal.returns
-returns c = let a = c.args in rw (← is_finished a.course a.at a.list.now (omega arith)) (mapped a.course c.map_err.result _ (λ e u h. ?) c.map_err.ensures.cases)
+returns c = let a = c.args in rw (← is_finished a.course a.at a.list.now (omega arith)) (mapped a.course c.map_err.result _ (λ e u h. search rules) c.map_err.ensures.cases)
