@@ -39,8 +39,10 @@ pub returns-then-count-gt-MAX_OPERATIONS : goal.returns-then-count-gt-MAX_OPERAT
 returns-then-count-gt-MAX_OPERATIONS c =
     let a = c.args in
     let L = loaded-is _ a.tuple.now (sym c.in_ok-n.ensures.0) in
-    elim c.then-count-gt-MAX_OPERATIONS.branch [ then-count-gt-MAX_OPERATIONS-via-then-count-gt-MAX_OPERATIONS w ↦ many_listed a.tuple.now a.list.now a.work.now a.table.now a.back.now a.base a.count a.first a.start L.are (omega arith)
-    | then-count-gt-MAX_OPERATIONS-via-else-count-gt-MAX_OPERATIONS+then-list-gt-MAX_LIST w ↦ long-list a.tuple.now a.list.now a.work.now a.table.now a.back.now a.base a.count a.first a.start L.are (omega arith) (omega arith) ]
+    elim c.then-count-gt-MAX_OPERATIONS.branch [
+      | then-count-gt-MAX_OPERATIONS-via-then-count-gt-MAX_OPERATIONS w ↦ many_listed a.tuple.now a.list.now a.work.now a.table.now a.back.now a.base a.count a.first a.start L.are (omega arith)
+      | then-count-gt-MAX_OPERATIONS-via-else-count-gt-MAX_OPERATIONS+then-list-gt-MAX_LIST w ↦ long-list a.tuple.now a.list.now a.work.now a.table.now a.back.now a.base a.count a.first a.start L.are (omega arith) (omega arith)
+    ]
 
 pub overflow_sub-stage : goal.overflow_sub-stage
 overflow_sub-stage c =
