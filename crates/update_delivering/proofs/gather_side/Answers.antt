@@ -11,5 +11,5 @@ returns c =
     side_written c.requires.0 c.requires.1 (omega arith) _ _ _ c.start_of-from.ensures.0 c.start_of.ensures.0 c.length_of.ensures.0
     c.copy_from.ensures
 
-pub returns-then-entries-eq0 : goal.returns-then-entries-eq0
-returns-then-entries-eq0 c = side_none c.requires.0 (omega arith)
+pub returns-then-is_empty : goal.returns-then-is_empty
+returns-then-is_empty c = side_none c.requires.0 (omega arith)
