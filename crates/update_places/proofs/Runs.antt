@@ -6,10 +6,9 @@ use Prim.Native.Nat.{ℕ, ◌+◌, ◌-◌, ◌<◌, ◌≤◌, min}
 use native.Mathlib.Omega.{arith}
 use borrow.Author.Tests.{lt-ltb, le-ltb, ltb-true, ltb-false}
 use lib.Dec.{ltb}
-use lib.ListN.{length, take, drop, length-take, length-drop, drop_of_length-le}
-use lib.Seq.{take-add, take_all, take-nil, drop-drop}
+use lib.ListN.{length, take, drop, length-take, length-drop}
+use lib.Seq.{take-add, drop-drop}
 use Rattle.msgpack_first_bytes.specs.Bytes.{Bytes}
-use Rattle.msgpack_writing.specs.Put.{put, next}
 use Rattle.update_places.specs.Place.{in_list, in_work, bytes_from, Sources}
 
 module _ (t l w : Bytes) (a n : ℕ) where
@@ -63,16 +62,3 @@ beside t l w S a m k e =
     (λ h.
     let j : a + m - in_work ≡ a - in_work + m = omega arith in
     rw (from-work t l w a m h, from-work t l w (a + m) k (omega arith), from-work t l w a (m + k) h, j) (join w (a - in_work) m k))
-
--- ---- parts of a source
-
-pub no_part : (s : Bytes) (from n : ℕ) → length s < from → [] ≡ take n (drop from s)
-no_part s from n h = sym (ap (take n) (drop_of_length-le s {i = from} (omega arith)) ∙ take-nil n)
-
-pub rest_part : (s : Bytes) (from n : ℕ) → length s - from < n → take (length s - from) (drop from s) ≡ take n (drop from s)
-rest_part s from n h =
-    take_all (length s - from) (drop from s) (simp length-drop (omega arith)) ∙ sym (take_all n (drop from s) (simp length-drop (omega arith)))
-
--- the same bytes are the same write
-pub placed : (x y out o : Bytes) (to r : ℕ) → x ≡ y → (r ≡ next to x out) × (o ≡ put to x out) → (r ≡ next to y out) × (o ≡ put to y out)
-placed x y out o to r e w = (w.0 ∙ ap (λ (z : Bytes). next to z out) e, w.1 ∙ ap (λ (z : Bytes). put to z out) e)

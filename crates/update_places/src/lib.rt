@@ -32,35 +32,37 @@ pub fn length_of(p: u32) -> usize
 pub fn part_of(s: &[u8], from: usize, n: usize) -> &[u8]
     ensures { result.now ≡ take n (drop from s.now) }
 {
-    if s.len() < from {
-        return &s[0..0];
+    let rest = &s[from.min(s.len())..];
+    &rest[..n.min(rest.len())]
+}
+
+// What a place may stand in: the caller's tuple, the caller's list, and the work array.
+#[derive(Clone, Copy)]
+pub struct Sources<'a> {
+    pub tuple: &'a [u8],
+    pub list: &'a [u8],
+    pub work: &'a [u8],
+}
+
+impl<'a> Sources<'a> {
+    // n bytes from a start on, or as many as there are.
+    pub fn bytes(self, at: usize, n: usize) -> &'a [u8]
+        ensures { result.now ≡ bytes_from self.entry.tuple.now self.entry.list.now self.entry.work.now at n }
+    {
+        if at < IN_LIST {
+            return part_of(self.tuple, at, n);
+        }
+        if at < IN_WORK {
+            return part_of(self.list, at - IN_LIST, n);
+        }
+        part_of(self.work, at - IN_WORK, n)
     }
-    let rest = s.len() - from;
-    if rest < n {
-        return &s[from..];
-    }
-    let end = from + n;
-    &s[from..end]
 }
 
 // A copy of n bytes from a start on, into the rest of a buffer.
-pub fn copy_from(
-    tuple: &[u8],
-    list: &[u8],
-    work: &[u8],
-    at: usize,
-    n: usize,
-    out: &mut [u8],
-    to: usize,
-) -> usize
-    ensures { (result ≡ next to (bytes_from tuple.now list.now work.now at n) out.old)
-        × (out.new ≡ put to (bytes_from tuple.now list.now work.now at n) out.old) }
+pub fn copy_from(sources: Sources, at: usize, n: usize, out: &mut [u8], to: usize) -> usize
+    ensures { let bytes = bytes_from sources.entry.tuple.now sources.entry.list.now sources.entry.work.now at n in
+        (result ≡ next to bytes out.old) × (out.new ≡ put to bytes out.old) }
 {
-    if at < IN_LIST {
-        return msgpack_writing::write_bytes(out, to, part_of(tuple, at, n));
-    }
-    if at < IN_WORK {
-        return msgpack_writing::write_bytes(out, to, part_of(list, at - IN_LIST, n));
-    }
-    msgpack_writing::write_bytes(out, to, part_of(work, at - IN_WORK, n))
+    msgpack_writing::write_bytes(out, to, sources.bytes(at, n))
 }
