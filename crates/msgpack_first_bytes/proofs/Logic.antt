@@ -1,5 +1,6 @@
 -- A case that cannot be, and a choice by a test. Assumes nothing.
-use mathlib.Core.Path.{◌≡◌, refl}
+use Rattle.std.specs.Prelude.{Result, Ok, Err, IsErrAnd}
+use mathlib.Core.Path.{◌≡◌, refl, ap}
 use mathlib.Core.Bool.{Bool, true, false, ◌&&◌}
 use mathlib.Core.Logic.{◌⊎◌, inl, inr, ⊎_elim}
 use Prim.Native.Nat.{ℕ, ◌<◌, ◌≤◌}
@@ -41,3 +42,8 @@ equal a b = ⊎_elim (λ h. ⊎_elim (λ l. inl (omega arith)) (λ l. inr (λ e.
 pub ands : (a b : Bool) → (a && b) ≡ true → (a ≡ true) × (b ≡ true)
 ands true b e = (refl, e)
 ands false b e = impossible cc
+
+-- what the exit of a `?` answers is the error that it found
+pub error_left : {A E : Type 0} (r : Result A E) (e : E) → IsErrAnd r (λ d. d ≡ e) → r ≡ Err e
+error_left (Ok a) e h = absurd h
+error_left (Err d) e h = ap Err h

@@ -1,11 +1,12 @@
 // Updating a tuple and undoing it: the definitions are in specs/, and the theorems about them are
-// what the functions below ensure. No code runs here.
+// what the functions below ensure. Of this crate only a refusal's number is code that runs.
 #![tactic(auto)]
 
 ghost use Rattle.std.specs.Prelude.{ℕ, ◌≡◌, List, map};
 ghost use Rattle.std.proofs.Math.Option.{some};
 ghost use Rattle.msgpack_first_bytes.specs.Bytes.{Bytes};
 ghost use Rattle.tuples.specs.Tuple.{Fields, fields_of};
+ghost use Rattle.tuples.specs.Call.{number_of};
 ghost use Rattle.tuples.specs.Sequence.{Event, start, Demand3};
 ghost use Rattle.tuples.specs.Press.{GoesInAlike, AsTheTwoCalls};
 ghost use Rattle.tuples.specs.Examples.{computed, rules, first, events, showing, sequence, press_computed, presses};
@@ -27,8 +28,8 @@ pub const MAX_OPERATIONS: usize = 64;
 
 pub const MAX_LIST: usize = 32768;
 
-// Why an update or an undo is refused; `number_of` gives document 01's number of each.
-#[derive(Clone, Copy)]
+// Why an update or an undo is refused.
+#[derive(Clone, Copy, PartialEq, Eq)]
 pub enum Refusal {
     BadTuple,
     BadList,
@@ -38,6 +39,24 @@ pub enum Refusal {
     TooLarge,
     LongUndo,
     ShortBuffer,
+}
+
+// Document 01's number of each refusal, for the answers that C sees.
+impl From<Refusal> for u32 {
+    ghost from_gives = { λ refusal n. n ≡ number_of refusal };
+
+    fn from(refusal: Refusal) -> u32 {
+        match refusal {
+            Refusal::BadTuple => 11,
+            Refusal::BadList => 12,
+            Refusal::NoField => 13,
+            Refusal::Unsuited => 14,
+            Refusal::OutOfRange => 15,
+            Refusal::TooLarge => 16,
+            Refusal::LongUndo => 17,
+            Refusal::ShortBuffer => 18,
+        }
+    }
 }
 
 // A call's answer: 0 with the length written, or a refusal's number with length 0, and with 13 to

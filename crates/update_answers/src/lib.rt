@@ -2,32 +2,18 @@
 #![tactic(auto)]
 
 ghost use Rattle.std.specs.Prelude.{◌≡◌};
-ghost use Rattle.tuples.specs.Call.{number_of, spoiled_in};
+ghost use Rattle.tuples.specs.Call.{spoiled_in};
 ghost use Rattle.update_answers.specs.Seen.{refusal_of, answer_at};
 
 use msgpack_values::{NO_PLACE, OptionalNumber};
 use tuples::{Answer, Refusal};
 
-fn number_of(refusal: Refusal) -> u32
-    ensures { result ≡ number_of refusal }
-{
-    match refusal {
-        Refusal::BadTuple => 11,
-        Refusal::BadList => 12,
-        Refusal::NoField => 13,
-        Refusal::Unsuited => 14,
-        Refusal::OutOfRange => 15,
-        Refusal::TooLarge => 16,
-        Refusal::LongUndo => 17,
-        Refusal::ShortBuffer => 18,
-    }
-}
-
+// A refusal's answer, with the operation's index.
 pub fn refused(refusal: Refusal, operation: u32) -> Answer
     ensures { result ≡ refusal_of refusal operation }
 {
     Answer {
-        number: number_of(refusal),
+        number: u32::from(refusal),
         operation,
         length: 0,
         place: NO_PLACE,
@@ -38,13 +24,11 @@ pub fn refused(refusal: Refusal, operation: u32) -> Answer
 fn spoiled_in(number: u32, tuple: &[u8], list: &[u8]) -> OptionalNumber
     ensures { result ≡ spoiled_in number tuple.now list.now }
 {
-    if number == 11 {
-        return msgpack_values::spoiled_at(tuple, 0, tuples::TUPLE_DEPTH);
+    match number {
+        11 => msgpack_values::spoiled_at(tuple, 0, tuples::TUPLE_DEPTH),
+        12 => msgpack_values::spoiled_at(list, 0, tuples::LIST_DEPTH),
+        _ => NO_PLACE,
     }
-    if number == 12 {
-        return msgpack_values::spoiled_at(list, 0, tuples::LIST_DEPTH);
-    }
-    NO_PLACE
 }
 
 // The answer on this tuple and list, with its place.

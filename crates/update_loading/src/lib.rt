@@ -11,8 +11,6 @@ ghost use Rattle.update_loading.specs.Loading.{loaded, entries, tabled, EndOf};
 use msgpack_values::Read;
 use tuples::{FIELD_DEPTH, MAX_FIELDS, MAX_TUPLE};
 
-// So many fields, and where the first stands; the tuple is outside the rules, refusal 11; or the table
-// has fewer entries.
 // Why a tuple is not loaded: it is outside the rules, refusal 11; or the table has fewer entries.
 #[derive(Clone, Copy, PartialEq, Eq)]
 pub enum Unloaded {
@@ -20,6 +18,7 @@ pub enum Unloaded {
     NoRoom,
 }
 
+// So many fields, and where the first stands.
 pub type Loaded = Result<(usize, usize), Unloaded>;
 
 // The first bytes of a number of two bytes, and of strings whose length stands in one byte and in two.
@@ -29,51 +28,51 @@ const STR_8: u8 = 0xd9;
 
 const STR_16: u8 = 0xda;
 
-// The place after such a string at `at`; 0 where there is none, or not all of it.
-fn string_end(s: &[u8], at: usize) -> usize
+// The place after such a string at `at`.
+fn string_end(s: &[u8], at: usize) -> Option<usize>
     requires { at < length s.now }
     ensures { EndOf s.now at result }
 {
     let left = s.len() - at;
     if s[at] == STR_8 {
         if left < 2 {
-            return 0;
+            return None;
         }
         let n = s[at + 1] as usize;
         if left - 2 < n {
-            return 0;
+            return None;
         }
-        return at + 2 + n;
+        return Some(at + 2 + n);
     }
     if s[at] == STR_16 {
         if left < 3 {
-            return 0;
+            return None;
         }
         let n = ((s[at + 1] as usize) << 8) + s[at + 2] as usize;
         if left - 3 < n {
-            return 0;
+            return None;
         }
-        return at + 3 + n;
+        return Some(at + 3 + n);
     }
-    0
+    None
 }
 
 // The place after the value at `at`, where it is one of the commonest: their lengths are constants where they
-// can be, so that the next value's place is known before this one's first byte is. 0 says nothing.
-fn short_end(s: &[u8], at: usize) -> usize
+// can be, so that the next value's place is known before this one's first byte is.
+fn short_end(s: &[u8], at: usize) -> Option<usize>
     ensures { EndOf s.now at result }
 {
     if s.len() <= at {
-        return 0;
+        return None;
     }
     if s[at] == UINT_16 {
         if s.len() - at < 3 {
-            return 0;
+            return None;
         }
-        return at + 3;
+        return Some(at + 3);
     }
     if s[at] < 0x80 {
-        return at + 1;
+        return Some(at + 1);
     }
     string_end(s, at)
 }
@@ -85,24 +84,13 @@ fn measure(tuple: &[u8], from: usize, n: usize, table: &mut [u32]) -> Read
         × (table.new ≡ tabled (places_at from (pieces (value field_depth) n (drop from tuple.now))) table.old) }
 {
     let mut at = from;
-    let mut i: usize = 0;
-    while i < n {
-        let quick = short_end(tuple, at);
-        if 0 < quick {
-            table[i] = update_places::place_of(at, quick - at);
-            at = quick;
-        } else {
-            match msgpack_values::read_value(tuple, at, FIELD_DEPTH) {
-                Err(place) => {
-                    return Err(place);
-                }
-                Ok(end) => {
-                    table[i] = update_places::place_of(at, end - at);
-                    at = end;
-                }
-            }
-        }
-        i += 1;
+    for entry in table[..n].iter_mut() {
+        let end = match short_end(tuple, at) {
+            Some(end) => end,
+            None => msgpack_values::read_value(tuple, at, FIELD_DEPTH)?,
+        };
+        *entry = update_places::place_of(at, end - at);
+        at = end;
     }
     Ok(at)
 }
@@ -115,19 +103,14 @@ pub fn load(tuple: &[u8], table: &mut [u32]) -> Loaded
     if MAX_TUPLE < tuple.len() {
         return Err(Unloaded::Bad);
     }
-    let Some((count, from)) = update_parts::count_at(tuple, 0) else {
-        return Err(Unloaded::Bad);
-    };
-    let n = count as usize;
+    let (n, from) = update_parts::count_at(tuple, 0).ok_or(Unloaded::Bad)?;
     if MAX_FIELDS < n {
         return Err(Unloaded::Bad);
     }
     if table.len() < n {
         return Err(Unloaded::NoRoom);
     }
-    let Ok(end) = measure(tuple, from, n, table) else {
-        return Err(Unloaded::Bad);
-    };
+    let end = measure(tuple, from, n, table).or(Err(Unloaded::Bad))?;
     if end != tuple.len() {
         return Err(Unloaded::Bad);
     }

@@ -35,31 +35,38 @@ pub enum Action {
     Remove(u64),
 }
 
+// An operation decoded: its field, what it does, and the place after it.
+pub type Decoded = Option<(Field, Action, usize)>;
+
+// How an operation begins: the count of its array, its mark, its field number, and the place after that.
+#[derive(Clone, Copy)]
+struct Opened {
+    count: usize,
+    mark: u8,
+    number: Int,
+    after: usize,
+}
+
 // By a mark whose argument is an integer at least 0, and of `#` at least 1.
-fn by_natural(mark: u64, n: u64, end: usize) -> Option<(Action, usize)>
+fn by_natural(mark: u8, n: u64, end: usize) -> Option<(Action, usize)>
     ensures { result ≡ natural_mark mark n end }
 {
     match mark {
-        0x26 => Some((Action::Alter(Change::Bits(Bitwise::And, n)), end)),
-        0x5e => Some((Action::Alter(Change::Bits(Bitwise::Xor, n)), end)),
-        0x7c => Some((Action::Alter(Change::Bits(Bitwise::Or, n)), end)),
-        0x23 => {
-            if n == 0 {
-                return None;
-            }
-            Some((Action::Remove(n), end))
-        }
+        b'&' => Some((Action::Alter(Change::Bits(Bitwise::And, n)), end)),
+        b'^' => Some((Action::Alter(Change::Bits(Bitwise::Xor, n)), end)),
+        b'|' => Some((Action::Alter(Change::Bits(Bitwise::Or, n)), end)),
+        b'#' if n != 0 => Some((Action::Remove(n), end)),
         _ => None,
     }
 }
 
 // By a mark whose argument is an integer.
-fn by_integer(mark: u64, z: Int, end: usize) -> Option<(Action, usize)>
+fn by_integer(mark: u8, z: Int, end: usize) -> Option<(Action, usize)>
     ensures { result ≡ integer_mark mark z end }
 {
     match mark {
-        0x2b => Some((Action::Alter(Change::Sum(false, z)), end)),
-        0x2d => Some((Action::Alter(Change::Sum(true, z)), end)),
+        b'+' => Some((Action::Alter(Change::Sum(false, z)), end)),
+        b'-' => Some((Action::Alter(Change::Sum(true, z)), end)),
         _ => {
             let Int::FromZero(n) = z else {
                 return None;
@@ -69,88 +76,72 @@ fn by_integer(mark: u64, z: Int, end: usize) -> Option<(Action, usize)>
     }
 }
 
-// The action of an array of three, its argument at `at`. The integer is read in one place, so that the
-// compiler has one call to make.
-fn three_at(list: &[u8], at: usize, mark: u64) -> Option<(Action, usize)>
+// The action of an array of three, its argument at `at`. The value is read in one place and the integer in
+// one, so that the compiler has one call of each to make.
+fn three_at(list: &[u8], at: usize, mark: u8) -> Option<(Action, usize)>
     ensures { result ≡ action_by list.now (three mark (drop at list.now)) }
 {
-    if (mark == 0x3d) | (mark == 0x21) {
-        let Some((start, end)) = update_parts::any_value(list, at) else {
-            return None;
-        };
-        if mark == 0x3d {
+    if (mark == b'=') | (mark == b'!') {
+        let (start, end) = update_parts::any_value(list, at)?;
+        if mark == b'=' {
             return Some((Action::Assign(start), end));
         }
         return Some((Action::Insert(start), end));
     }
-    let Some((z, end)) = update_numbers::any_integer(list, at) else {
-        return None;
-    };
+    let (z, end) = update_numbers::any_integer(list, at)?;
     by_integer(mark, z, end)
 }
 
 // The action of an array of five: a splice, its position at `at`.
-fn five_at(list: &[u8], at: usize, mark: u64, base: u64) -> Option<(Action, usize)>
+fn five_at(list: &[u8], at: usize, mark: u8, base: u64) -> Option<(Action, usize)>
     ensures { result ≡ action_by list.now (five base mark (drop at list.now)) }
 {
-    if mark != 0x3a {
+    if mark != b':' {
         return None;
     }
-    let Some((position, at_count)) = update_numbers::position_at(list, at, base) else {
-        return None;
-    };
-    let Some((count, at_argument)) = update_numbers::at_least(list, at_count, 0) else {
-        return None;
-    };
-    let Some((start, end)) = update_parts::string_at(list, at_argument) else {
-        return None;
-    };
+    let (position, at_count) = update_numbers::position_at(list, at, base)?;
+    let (count, at_argument) = update_numbers::at_least(list, at_count, 0)?;
+    let (start, end) = update_parts::string_at(list, at_argument)?;
     Some((Action::Alter(Change::Splice(position, count, start)), end))
 }
 
-// What an operation of `count` parts does by its mark; what follows its field number stands at `at`.
-fn action_at(list: &[u8], at: usize, count: u64, mark: u64, base: u64) -> Option<(Action, usize)>
-    ensures { result ≡ action_by list.now (action_of base count mark (drop at list.now)) }
+// What an operation does, by how it begins.
+fn action_at(list: &[u8], opened: Opened, base: u64) -> Option<(Action, usize)>
+    ensures { result ≡ action_by list.now (action_of base opened.count opened.mark (drop opened.after list.now)) }
 {
-    if count == 3 {
-        return three_at(list, at, mark);
+    match opened.count {
+        3 => three_at(list, opened.after, opened.mark),
+        5 => five_at(list, opened.after, opened.mark, base),
+        _ => None,
     }
-    if count == 5 {
-        return five_at(list, at, mark, base);
-    }
-    None
 }
 
 // How the operation at `at` begins.
-fn opening_at(list: &[u8], at: usize) -> Option<(u64, u64, Int, usize)>
+fn opening_at(list: &[u8], at: usize) -> Option<Opened>
     ensures { result ≡ opened_by list.now (opening (drop at list.now)) }
 {
-    let Some((count, at_mark)) = update_parts::count_at(list, at) else {
-        return None;
-    };
-    let Some((mark, at_number)) = update_parts::mark_at(list, at_mark) else {
-        return None;
-    };
-    let Some((number, after)) = update_numbers::any_integer(list, at_number) else {
-        return None;
-    };
-    Some((count, mark, number, after))
+    let (count, at_mark) = update_parts::count_at(list, at)?;
+    let (mark, at_number) = update_parts::mark_at(list, at_mark)?;
+    let (number, after) = update_numbers::any_integer(list, at_number)?;
+    Some(Opened {
+        count,
+        mark,
+        number,
+        after,
+    })
 }
 
 // The operation at `at`.
-pub fn operation_at(list: &[u8], at: usize, base: u64) -> Option<(Field, Action, usize)>
+pub fn operation_at(list: &[u8], at: usize, base: u64) -> Decoded
     ensures { result ≡ decoded_by list.now (operation base (drop at list.now)) }
 {
-    let Some((count, mark, number, after)) = opening_at(list, at) else {
-        return None;
-    };
-    let Some((action, end)) = action_at(list, after, count, mark, base) else {
-        return None;
-    };
-    Some((update_numbers::field_of(number, base), action, end))
+    let opened = opening_at(list, at)?;
+    let (action, end) = action_at(list, opened, base)?;
+    Some((update_numbers::field_of(opened.number, base), action, end))
 }
 
-// What the front of a list tells, before any of its operations is read.
+// The number of operations and the place of the first, as the front of a list tells them before any
+// operation is read.
 pub fn front_of(list: &[u8], base: u64) -> Option<(usize, usize)>
     ensures { result ≡ front base list.now }
 {
@@ -160,10 +151,7 @@ pub fn front_of(list: &[u8], base: u64) -> Option<(usize, usize)>
     if tuples::MAX_LIST < list.len() {
         return None;
     }
-    let Some((n, start)) = update_parts::count_at(list, 0) else {
-        return None;
-    };
-    let count = n as usize;
+    let (count, start) = update_parts::count_at(list, 0)?;
     if tuples::MAX_OPERATIONS < count {
         return None;
     }

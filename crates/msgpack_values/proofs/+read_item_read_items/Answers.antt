@@ -6,6 +6,7 @@ use Prim.Native.Nat.{ℕ, suc, ◌-◌, ◌≤◌}
 use mathlib.Core.Path.{◌≡◌, sym, ap, ◌∙◌}
 use lib.ListN.{drop}
 use Rattle.msgpack_first_bytes.specs.Bytes.{Bytes}
+use Rattle.msgpack_first_bytes.proofs.Logic.{error_left}
 use Rattle.msgpack_values.specs.Value.{shift, items, value}
 use Rattle.msgpack_values.proofs.Laws as Laws
 use Rattle.msgpack_values.proofs.+read_item_read_items.Goals as goal
@@ -29,21 +30,22 @@ pub read_items-loop-left-preserved-in-Past : goal.read_items-loop-left-preserved
 read_items-loop-left-preserved-in-Past t c =
     let l = c.loop-left in
     let a = c.args in
-    whole a.s.now a.at a.n a.depth l.end l.left (l.left - 1) (omega arith) l.invariant _ c.in-Past.ensures
+    whole a.s.now a.at a.n a.depth l.end l.left (l.left - 1) (omega arith) l.invariant _ (rw c.in-Past.is at c.in_ok-next.ensures)
 
 pub read_items-loop-left-preserved : goal.read_items-loop-left-preserved
 read_items-loop-left-preserved t c =
     let l = c.loop-left in
     let a = c.args in
     let r = c.same_heads-run.ensures in
-    let w = whole a.s.now a.at a.n a.depth l.end l.left (l.left - 1) (omega arith) l.invariant _ c.in-Headed.ensures.0 in
+    let h = rw c.in-Headed.is at c.in_ok-next.ensures in
+    let w = whole a.s.now a.at a.n a.depth l.end l.left (l.left - 1) (omega arith) l.invariant _ h.0 in
     (omega (arith, w.0, r.further), w.1 ∙ sym (r.same a.depth))
 
-pub read_items-returns-in-Fails : goal.read_items-returns-in-Fails
-read_items-returns-in-Fails t c =
+pub read_items-returns-in_err-next : goal.read_items-returns-in_err-next
+read_items-returns-in_err-next t c =
     let l = c.loop-left in
     let a = c.args in
-    broken a.s.now a.at a.n a.depth l.end l.left (l.left - 1) (omega arith) l.invariant _ c.in-Fails.ensures
+    rw (error_left _ _ c.from_residual.ensures.1) (broken a.s.now a.at a.n a.depth l.end l.left (l.left - 1) (omega arith) l.invariant _ c.in_err-next.ensures)
 
 pub read_items-returns : goal.read_items-returns
 unfolding items

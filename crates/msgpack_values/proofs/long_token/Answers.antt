@@ -4,6 +4,7 @@ use Prim.Native.Nat.{◌<◌, ◌≤◌}
 use mathlib.Core.Path.{◌≡◌, sym, ◌∙◌}
 use lib.ListN.{length, drop}
 use Rattle.msgpack_first_bytes.specs.Entry.{length_bytes, fixed_payload}
+use Rattle.msgpack_first_bytes.proofs.Logic.{error_left}
 use Rattle.msgpack_values.specs.Value.{shift, value}
 use Rattle.msgpack_values.specs.Tokens.{Width}
 use Rattle.msgpack_values.proofs.Tokens as Tokens
@@ -26,7 +27,7 @@ answer c = let p = c.requires in c.long_scalar.ensures ∙ Tokens.long _ _ _ _ p
 pub returns-then-e-eq1 : goal.returns-then-e-eq1
 returns-then-e-eq1 c =
     let p = c.requires in
-    let e = sym c.in-Ok.is ∙ answer (goal.at.returns-then-e-eq1 c).After-long_scalar in
+    let e = sym c.in_ok-next.was ∙ answer (goal.at.returns-then-e-eq1 c).After-long_scalar in
     (e, Tokens.headed _ _ _ _ _ p.0 (omega arith) c.if-e-eq1.true e)
 
 pub container_at-requires : goal.container_at-requires
@@ -38,8 +39,9 @@ returns-then-e-ge-ARRAY c = c.container_at.ensures
 pub long_scalar-requires : goal.long_scalar-requires
 long_scalar-requires c = requires-it (goal.at.long_scalar-requires c).Else-e-ge-ARRAY
 
-pub returns-else-e-eq1 : goal.returns-else-e-eq1
-returns-else-e-eq1 c = sym c.in-Ok.is ∙ answer (goal.at.returns-else-e-eq1 c).After-long_scalar
+pub returns : goal.returns
+returns c = sym c.in_ok-next.was ∙ answer (goal.at.returns c).After-long_scalar
 
-pub returns-in-Err : goal.returns-in-Err
-returns-in-Err c = sym c.in-Err.is ∙ answer (goal.at.returns-in-Err c).After-long_scalar
+pub returns-in_err-next : goal.returns-in_err-next
+returns-in_err-next c =
+    rw (error_left _ _ c.from_residual.ensures.1) (sym c.in_err-next.was ∙ answer (goal.at.returns-in_err-next c).After-long_scalar)

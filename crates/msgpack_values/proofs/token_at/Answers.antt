@@ -1,20 +1,36 @@
 -- A scalar that its first byte tells, past the end, or what is inside arrays of one.
 use native.Mathlib.Omega.{arith}
-use mathlib.Core.Path.{◌∙◌}
+use mathlib.Core.Path.{◌≡◌, sym, ◌∙◌}
+use lib.ListN.{drop}
+use Rattle.msgpack_first_bytes.proofs.Logic.{error_left}
+use Rattle.msgpack_values.specs.Value.{shift, value}
 use Rattle.msgpack_values.proofs.Laws.{value_end}
 use Rattle.msgpack_values.proofs.Tokens as Tokens
+use Rattle.msgpack_values.proofs.token_at.Goals.{After-told_scalar, After-told_scalar-then-inner-lt-TOLD_END}
 use Rattle.msgpack_values.proofs.token_at.Goals as goal
 
+-- what its first byte tells is the value
+early : (c : After-told_scalar) → (let a = c.args in c.told_scalar.result ≡ shift a.at (value a.depth (drop a.at a.s.now)))
+early c = c.told_scalar.ensures ∙ Tokens.told _ _ _ _ c.first_byte_entry-e.ensures c.if-e-lt-TOLD_END.true
+
+-- .. and what is inside arrays of one
+late : (c : After-told_scalar-then-inner-lt-TOLD_END) → (let a = c.args in c.told_scalar-then-inner-lt-TOLD_END.result ≡ shift a.at (value a.depth (drop a.at a.s.now)))
+late c =
+    let i = c.inside_ones-inner.ensures in
+    c.told_scalar-then-inner-lt-TOLD_END.ensures ∙ Tokens.told _ _ _ c.inside_ones-inner.result.depth i.told c.if-inner-lt-TOLD_END.true ∙ i.same
+
 pub returns-then-e-lt-TOLD_END : goal.returns-then-e-lt-TOLD_END
-returns-then-e-lt-TOLD_END c =
-    let e = c.first_byte_entry-e.ensures in
-    rw c.token_of.ensures (Tokens.read_tells _ _ _ _ _ (c.told_scalar.ensures ∙ Tokens.told _ _ _ _ e c.if-e-lt-TOLD_END.true))
+returns-then-e-lt-TOLD_END c = sym c.in_ok-end.was ∙ early (goal.at.returns-then-e-lt-TOLD_END c).After-told_scalar
+
+pub returns-in_err-end : goal.returns-in_err-end
+returns-in_err-end c = rw (error_left _ _ c.from_residual.ensures.1) (sym c.in_err-end.was ∙ early (goal.at.returns-in_err-end c).After-told_scalar)
 
 pub returns-then-inner-lt-TOLD_END : goal.returns-then-inner-lt-TOLD_END
-returns-then-inner-lt-TOLD_END c =
-    let i = c.inside_ones-inner.ensures in
-    rw c.token_of-then-inner-lt-TOLD_END.ensures (Tokens.read_tells _ _ _ _ _
-    (c.told_scalar-then-inner-lt-TOLD_END.ensures ∙ Tokens.told _ _ _ c.inside_ones-inner.result.depth i.told c.if-inner-lt-TOLD_END.true ∙ i.same))
+returns-then-inner-lt-TOLD_END c = sym c.in_ok-end-2.was ∙ late (goal.at.returns-then-inner-lt-TOLD_END c).After-told_scalar-then-inner-lt-TOLD_END
+
+pub returns-in_err-end-2 : goal.returns-in_err-end-2
+returns-in_err-end-2 c =
+    rw (error_left _ _ c.from_residual-in_err-end-2.ensures.1) (sym c.in_err-end-2.was ∙ late (goal.at.returns-in_err-end-2 c).After-told_scalar-then-inner-lt-TOLD_END)
 
 pub returns : goal.returns
 returns c =
