@@ -57,7 +57,7 @@ unfolding Chain
 chained [] left h a e = tt
 chained (p ∷ []) left h a e = (e, tt)
 chained (p ∷ (q ∷ side)) left h a e =
-    (e, chained (q ∷ side) left (λ k d m. h (suc k) d (omega arith)) (a + length_of p) (sym (rw e at (eqb-true _ _ (h 0 0 (omega arith))))))
+    (e, chained (q ∷ side) left (λ k d m. let n : suc k + 1 ≡ suc (k + 1) = omega arith in rw n at (h (suc k) d (omega arith))) (a + length_of p) (sym (rw e at (eqb-true _ _ (h 0 0 (omega arith))))))
 
 -- the entries before those that are left are gathered
 pub record Gathered (t l w : Bytes) (es : List ℕ) (out : Bytes) (at : ℕ) (left : List ℕ) (cur : Bytes) (to : ℕ) : Type 0 where
@@ -72,7 +72,7 @@ module _ {t l w : Bytes} {es : List ℕ} {out : Bytes} {at : ℕ} (G : Gathers t
 
   pub ended : {left : List ℕ} {cur : Bytes} {to : ℕ} → Gathered t l w es out at left cur to → length left ≡ 0 → Wrote out at (joined (fields_in t l w es)) cur to
   ended {left = []} {cur} {to} g e = subst (λ (x : List ℕ). Wrote out at (joined (fields_in t l w x)) cur to) (sym (g.is ∙ append-nil g.before)) g.wrote
-  ended {x ∷ left} g e = absurd (omega arith)
+  ended {left = x ∷ left} g e = absurd (omega arith)
 
   module _ {left : List ℕ} {cur : Bytes} {to : ℕ} (g : Gathered t l w es out at left cur to) {side more : List ℕ} (b : Beside left side more) where
     sizes : length (joined (fields_in t l w es)) ≡ length (joined (fields_in t l w g.before)) + (length (joined (fields_in t l w side)) + length (joined (fields_in t l w more)))

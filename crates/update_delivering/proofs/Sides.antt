@@ -10,7 +10,6 @@ use Rattle.msgpack_values.specs.Pieces.{joined}
 use Rattle.msgpack_writing.specs.Put.{put, next}
 use Rattle.msgpack_writing.proofs.Put.{Wrote, wrote, nothing, join as join-writes}
 use Rattle.update_places.specs.Place.{start_of, length_of, bytes_from, fields_in, sum}
-use Rattle.update_places.proofs.Runs.{placed}
 use Rattle.update_places.proofs.Chains.{chain-drop, chain-joined, chain_first, chain-last}
 use Rattle.update_delivering.specs.Gathering.{Gathers, Side, Sides}
 use Rattle.update_delivering.proofs.Runs.{Front, front_split, fields_split, whole_drop, whole_take}
@@ -42,7 +41,7 @@ module _ {t l w : Bytes} {es : List ℕ} {out : Bytes} {at : ℕ} (G : Gathers t
 
   pub side_written : {new : Bytes} {r : ℕ} → (r ≡ next at (bytes_from t l w from (k + m - from)) out) × (new ≡ put at (bytes_from t l w from (k + m - from)) out)
       → (r ≡ next at (joined (fields_in t l w es)) out) × (new ≡ put at (joined (fields_in t l w es)) out)
-  side_written {new} {r} d = placed (bytes_from t l w from (k + m - from)) (joined (fields_in t l w es)) out new at r side_bytes d
+  side_written {new} {r} d = rw side_bytes at d
 
 -- ---- the three parts
 

@@ -1,33 +1,35 @@
-use mathlib.Core.Path.{refl}
-use mathlib.Core.Logic.{inl, inr}
-use Rattle.update_delivering.proofs.Tries.{lacks, undo-refused, stalled_long, carried_undoes, tries_undo}
+use Rattle.std.proofs.Common.{rules, ◌≡◌, ◌++◌, ◌+◌, ◌^◌, ◌<◌, ◌≤◌, length, take, drop, Ok, Err, ℕ, ◌-◌, ◌*◌, ◌/◌, ◌%◌, Bool, true, false, nat_eq, nat_lt, List, [], ◌∷◌, slice_index_or, slice_set, bit_and, bit_or, Fits, w8, w32, w64, Bor, MutBor}
+use Rattle.msgpack_first_bytes.specs.Bytes.{pick}
+use Rattle.msgpack_values.specs.Pieces.{joined}
+use Rattle.msgpack_writing.specs.Forms.{array_header}
+use Rattle.msgpack_writing.specs.Put.{put, next}
+use Rattle.tuples.specs.Limits.{max_fields}
+use Rattle.tuples.specs.Call.{bytes}
+use Rattle.tuples.specs.Press.{pressing}
+use Rattle.tuples.specs.Tuple.{fields_of, plain}
+use Rattle.update_places.specs.Place.{fields_in}
+use Rattle.update_running.specs.Steps.{entry_mark}
+use Rattle.update_running.specs.Held.{entry_bytes, undo_in}
+use Rattle.update_delivering.specs.Gathering.{Gathers, Side, Sides, shown, Stands, in_limits, undo_outcome, Entries, Undoes, Delivers, DeliversBoth, Moves}
+use Rattle.update_running.specs.Carrying.{comes_to, takes_back, rest_of}
+use Rattle.update_delivering.specs.Delivering.{failed_of, TriesUpdate, TriesUndo, TriesPress}
+use Rattle.tuples.specs.declared.Refusal.TheVariants.{LongUndo}
+use Rattle.update_delivering.specs.declared.Failed.TheVariants.{Refused}
+use Rattle.update_delivering.specs.declared.Unwritten.TheVariants.{Refused as RefusedYet}
 use Rattle.update_delivering.proofs.undo_with.Goals as goal
 
+-- src/lib.rt:337:9
+pub returns-in_err-stage : goal.returns-in_err-stage
+returns-in_err-stage c = ?
+
+-- src/lib.rt:338:8
 pub deliver_undo-requires : goal.deliver_undo-requires
-deliver_undo-requires c =
-    let K = rw c.in-Ok.is at c.carry_out.ensures in
-    carried_undoes K c.carry_out.auto.back
+deliver_undo-requires c = ?
 
-pub returns-in-NoRoom : goal.returns-in-NoRoom
-returns-in-NoRoom c =
-    let a = c.args in (
-      refl,
-      inl (lacks a.table.now a.work.now c.carry_out.new.table c.carry_out.new.work c.carry_out.auto.table c.carry_out.auto.work
-          (rw c.in-NoRoom.is at c.carry_out.ensures)),
-    )
+-- src/lib.rt:338:8
+pub returns-in_err-deliver_undo : goal.returns-in_err-deliver_undo
+returns-in_err-deliver_undo c = ?
 
-pub returns-in-Full : goal.returns-in-Full
-returns-in-Full c =
-    let a = c.args in
-    (refl, inr (stalled_long (rw c.in-Full.is at c.carry_out.ensures) a.work.now c.carry_out.auto.work))
-
-pub returns-in-Refused : goal.returns-in-Refused
-returns-in-Refused c =
-    let a = c.args in
-    let e = rw c.in-Refused.is at c.carry_out.ensures in
-    (undo-refused _ _ _ _ a.out.now e.0, e.1)
-
-pub returns-in-Ok : goal.returns-in-Ok
-returns-in-Ok c =
-    let a = c.args in
-    tries_undo (rw c.in-Ok.is at c.carry_out.ensures) c.deliver_undo.result a.work.now a.out.now _ a.table.now c.carry_out.auto.back c.deliver_undo.ensures
+-- src/lib.rt:322:1
+pub returns : goal.returns
+returns c = ?
