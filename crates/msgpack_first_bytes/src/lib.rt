@@ -5,12 +5,12 @@
 mod table;
 
 ghost use Rattle.std.specs.Prelude.{◌≡◌, eqb, ◌+◌, ◌*◌, ◌^◌, ◌<◌, ◌≤◌};
-ghost use Rattle.msgpack_first_bytes.specs.FirstByte.{form_of, kind_no, same_kind};
+ghost use Rattle.msgpack_first_bytes.specs.FirstByte.{form_of, same_kind};
 ghost use Rattle.msgpack_first_bytes.specs.Entry.{entry_of, Told, positive_fixint, array_of_one, common_length};
 ghost use Rattle.msgpack_first_bytes.specs.Rows.{four, row_of};
 
 // What a value is that holds no other value.
-#[derive(Clone, Copy)]
+#[derive(Clone, Copy, PartialEq, Eq)]
 pub enum Kind {
     Nil,
     Boolean,
@@ -25,7 +25,7 @@ pub enum Kind {
 
 // What a first byte says: the kind, the number of length bytes that follow it, and what is due
 // by the first byte alone, in bytes (an ext's type is one) or, of an array or a map, in values.
-#[derive(Clone, Copy)]
+#[derive(Clone, Copy, PartialEq, Eq)]
 pub enum Form {
     Unused,
     Scalar(Kind, usize, usize),
@@ -37,13 +37,7 @@ fn power_of_two(k: u8) -> usize
     requires { k < 5 }
     ensures { (result ≡ 2 ^ k) × (result ≤ 16) }
 {
-    match k {
-        0 => 1,
-        1 => 2,
-        2 => 4,
-        3 => 8,
-        _ => 16,
-    }
+    1 << k
 }
 
 // The decision over ranges: the plain reference that the table is held to. Nothing that runs calls it.
@@ -212,6 +206,7 @@ pub fn form_of(b: u8) -> Form
     let e = entry(b);
     let width = (e >> 12) as usize;
     let fixed = (e % 256) as usize;
+    // Stays: one match over the digit; a `TryFrom` of it for `Kind` would need a second one for arrays and maps.
     match (e >> 8) % 16 {
         0 => Form::Scalar(Kind::Nil, width, fixed),
         1 => Form::Scalar(Kind::Boolean, width, fixed),
@@ -228,25 +223,9 @@ pub fn form_of(b: u8) -> Form
     }
 }
 
-fn kind_no(k: Kind) -> u8
-    ensures { result ≡ kind_no k }
-{
-    match k {
-        Kind::Nil => 0,
-        Kind::Boolean => 1,
-        Kind::Unsigned => 2,
-        Kind::Signed => 3,
-        Kind::Float32 => 4,
-        Kind::Float64 => 5,
-        Kind::String => 6,
-        Kind::Bin => 7,
-        Kind::Ext => 8,
-    }
-}
-
 // Whether two kinds are the same.
 pub fn same_kind(a: Kind, b: Kind) -> bool
     ensures { result ≡ same_kind a b }
 {
-    kind_no(a) == kind_no(b)
+    a == b
 }

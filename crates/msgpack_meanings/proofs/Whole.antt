@@ -1,6 +1,6 @@
 -- What a whole value tells of its bytes. Assumes nothing.
 use Rattle.std.specs.Prelude.{Ok, Err}
-use mathlib.Core.Path.{◌≡◌, sym, subst, ap, ◌∙◌}
+use mathlib.Core.Path.{◌≡◌, refl, sym, subst, ap, ◌∙◌}
 use mathlib.Core.Bool.{Bool, true}
 use Prim.Native.Nat.{ℕ, ◌+◌, ◌<◌, ◌≤◌}
 use native.Mathlib.Nat.{zero-add}
@@ -17,11 +17,16 @@ use Rattle.msgpack_numbers.specs.Number.{number}
 use Rattle.msgpack_values.specs.Value.{shift, payload, sized, value, Read}
 use Rattle.msgpack_values.proofs.Laws.{value_scalar}
 use Rattle.msgpack_values.proofs.Local.{shift-whole, pick-whole, value_good, value_pos}
+use Rattle.msgpack_scalars.specs.Integer.{shift_integer, Integer}
 use Rattle.msgpack_meanings.specs.Meaning.{type_bytes}
 
 pub shift_none : (r : Read) → shift 0 r ≡ r
 shift_none (Ok n) = ap Ok (zero-add n)
 shift_none (Err p) = ap Err (zero-add p)
+
+pub unshifted : (z : Integer) → shift_integer 0 z ≡ z
+unshifted (Ok (z, e)) = ap (λ a. Ok (z, a)) (zero-add e)
+unshifted (Err e) = refl
 
 -- it has a first byte, and lies within the bytes
 pub whole-within : (d : ℕ) (s : Bytes) (n : ℕ) → value d s ≡ Ok n → (1 ≤ n) × (n ≤ length s)

@@ -27,12 +27,10 @@ use Rattle.msgpack_meanings.specs.declared.Meaning.TheVariants.{
   Map as MeansMap,
 }
 use Rattle.msgpack_meanings.specs.declared.Alone.{Alone}
-use Rattle.msgpack_scalars.specs.declared.NoNumber.TheVariants.{Cut, Other}
 
 unfoldable pub of_integer : Integer → Meaning
 of_integer (Ok (z, e)) = MeansInteger z
-of_integer (Err Cut) = Absent
-of_integer (Err Other) = Absent
+of_integer (Err e) = Absent
 
 -- "a float 32 or a float 64 with exactly the bits sent": the float, and the bits beside it, which of a NaN say which
 unfoldable pub of_float32 : Option ℕ → Meaning

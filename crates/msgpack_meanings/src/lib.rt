@@ -11,7 +11,7 @@ ghost use Rattle.msgpack_scalars.specs.Integer.{integer};
 ghost use Rattle.msgpack_meanings.specs.Meaning.{of_integer, of_float32, of_float64, type_bytes, scalar_meaning, meaning, alone};
 
 use msgpack_first_bytes::{Form, Kind};
-use msgpack_scalars::{Int, Integer, NoNumber};
+use msgpack_scalars::Int;
 use msgpack_values::OptionalNumber;
 
 // What a value means. A float stands beside its bits, which say which NaN it is. A string, bin or
@@ -32,6 +32,7 @@ pub enum Meaning {
 }
 
 // The answer for a value read alone: 0 with its length and meaning, or 4 with the place of the first byte that spoils it.
+// Stays: no Result, since GivenExactly of spoiled_places says by `number` when `place` is given.
 #[derive(Clone, Copy)]
 pub struct Alone {
     pub number: u32,
@@ -44,6 +45,7 @@ pub struct Alone {
 const ALONE_DEPTH: usize = 16;
 
 // A float 32 with its bits. The language makes a NaN, but not one with chosen bits.
+// Stays: beside float64, since no trait has the `from_bits` of both; one of our own would be longer than the two.
 fn float32(bits: u32) -> Meaning
     ensures { result ≡ Meaning.Float32 (of_bits binary32 bits) bits }
 {
@@ -64,6 +66,7 @@ fn float64(bits: u64) -> Meaning
     }
 }
 
+#[tactic(auto, unfolding(crate::specs::Meaning::of_float32))]
 fn float32_meaning(s: &[u8]) -> Meaning
     ensures { result ≡ of_float32 (number_at 4 1 s.now) }
 {
@@ -73,6 +76,7 @@ fn float32_meaning(s: &[u8]) -> Meaning
     }
 }
 
+#[tactic(auto, unfolding(crate::specs::Meaning::of_float64))]
 fn float64_meaning(s: &[u8]) -> Meaning
     ensures { result ≡ of_float64 (number_at 8 1 s.now) }
 {
@@ -82,17 +86,18 @@ fn float64_meaning(s: &[u8]) -> Meaning
     }
 }
 
+#[tactic(auto, using(crate::proofs::Whole::unshifted), unfolding(crate::specs::Meaning::of_integer))]
 fn integer_meaning(s: &[u8]) -> Meaning
     ensures { result ≡ of_integer (integer s.now) }
 {
     match msgpack_scalars::integer_at(s, 0) {
         Ok((z, _)) => Meaning::Integer(z),
-        Err(NoNumber::Cut) => Meaning::Absent,
-        Err(NoNumber::Other) => Meaning::Absent,
+        Err(_) => Meaning::Absent,
     }
 }
 
 // What the scalar of `end` bytes at the front means, `width` of them length bytes.
+#[tactic(auto, unfolding(crate::specs::Meaning::scalar_meaning))]
 fn scalar_meaning(s: &[u8], kind: Kind, width: usize, end: usize) -> Meaning
     requires { (1 + width + type_bytes kind ≤ end) × (end ≤ length s.now) }
     ensures { result ≡ scalar_meaning kind width s.now end }
@@ -101,8 +106,7 @@ fn scalar_meaning(s: &[u8], kind: Kind, width: usize, end: usize) -> Meaning
     match kind {
         Kind::Nil => Meaning::Nil,
         Kind::Boolean => Meaning::Boolean(s[0] == 0xc3),
-        Kind::Unsigned => integer_meaning(s),
-        Kind::Signed => integer_meaning(s),
+        Kind::Unsigned | Kind::Signed => integer_meaning(s),
         Kind::Float32 => float32_meaning(s),
         Kind::Float64 => float64_meaning(s),
         Kind::String => Meaning::String(from, end - from),
@@ -112,6 +116,7 @@ fn scalar_meaning(s: &[u8], kind: Kind, width: usize, end: usize) -> Meaning
 }
 
 // What the whole value of `end` bytes at the front means.
+#[tactic(auto, unfolding(crate::specs::Meaning::meaning))]
 fn meaning_of(s: &[u8], end: usize) -> Meaning
     requires { value 16 s.now ≡ Ok end }
     ensures { result ≡ meaning (form_of (get_or s.now 0 0)) s.now end }

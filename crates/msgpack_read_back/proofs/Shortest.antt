@@ -1,7 +1,7 @@
 -- No form that is read as a number, a length or a count is shorter than the form that is written: a larger number has no shorter form,
 -- and the greatest number that a first byte can say has one that is no longer; that is one test over all first bytes. Assumes nothing.
-use Rattle.std.specs.Prelude.{Some, None, Ok, Err}
-use mathlib.Core.Path.{◌≡◌, refl}
+use Rattle.std.specs.Prelude.{Some, None, Result, Ok, Err}
+use mathlib.Core.Path.{◌≡◌, refl, ap}
 use mathlib.Core.Bool.{Bool, true}
 use mathlib.Core.List.{[], ◌∷◌}
 use Prim.Native.Nat.{ℕ, zero, suc, ◌+◌, ◌-◌, ◌*◌, ◌^◌, ◌≤◌}
@@ -27,6 +27,17 @@ use Rattle.msgpack_read_back.specs.Claims.{Octets, integer_form, Shortest}
 use Rattle.msgpack_read_back.proofs.Digits.{number-take}
 use Rattle.msgpack_scalars.specs.declared.NoNumber.TheVariants.{Cut, Other}
 
+-- ---- what is answered is the same in both of its parts
+
+parts : {A B : Type 0} {a c : A} {b d : B} → ◌≡◌ {A = A × B} (a, b) (c, d) → (a ≡ c) × (b ≡ d)
+parts {A} {B} e = (ap (λ (x : A × B). x.0) e, ap (λ (x : A × B). x.1) e)
+
+ok_parts : {A B E : Type 0} {a c : A} {b d : B} → ◌≡◌ {A = Result (A × B) E} (Ok (a, b)) (Ok (c, d)) → (a ≡ c) × (b ≡ d)
+ok_parts e = parts cc
+
+some_parts : {a b c d : ℕ} → ◌≡◌ {A = Header} (Some (a, b)) (Some (c, d)) → (a ≡ c) × (b ≡ d)
+some_parts e = parts cc
+
 -- ---- headers
 
 -- the form of the greatest number that a start says is no longer than the start
@@ -39,10 +50,9 @@ module _ (form : ℕ → Bytes) (mono : (n m : ℕ) → n ≤ m → length (form
   unfolding counted
   counted-short (Some (w, f)) t s o n k e = by_leb (λ (h : Header). h ≡ Some (n, k) → length (form n) ≤ k) w (length s) fits (λ _ q. impossible cc) e
     where
-      fits : w ≤ length s → Some (number (take w s) + f, 1 + w) ≡ Some (n, k) → length (form n) ≤ k
+      fits : w ≤ length s → ◌≡◌ {A = Header} (Some (number (take w s) + f, 1 + w)) (Some (n, k)) → length (form n) ≤ k
       fits h q =
-          let en : number (take w s) + f ≡ n = cc in
-          let ek : 1 + w ≡ k = cc in
+          let e = some_parts q in
           let b = number-take w s o h in
           let m : length (form n) ≤ length (form (256 ^ w - 1 + f)) = mono n (256 ^ w - 1 + f) (omega arith) in
           let l : length (form (256 ^ w - 1 + f)) ≤ 1 + w = leb→le _ _ t in
@@ -134,14 +144,12 @@ integer_shortest s o z k e = go (due Unsigned s) refl (due Signed s) refl e
   where
     go : (d : Due) → due Unsigned s ≡ d → (c : Due) → due Signed s ≡ c → adding (unsigned_by d s) (signed_by c s) ≡ Ok (z, k) → length (integer_form z) ≤ k
     go (Ok f) q c r e =
-        let ez : FromZero (natural_of f s) ≡ z = cc in
-        let ek : 1 + f ≡ k = cc in
-        rw (← ez, ← ek) (number_short Unsigned (λ f s. FromZero (natural_of f s)) unsigned_test unsigned-short tt s o f q)
+        let p = ok_parts e in
+        rw (← p.0, ← p.1) (number_short Unsigned (λ f s. FromZero (natural_of f s)) unsigned_test unsigned-short tt s o f q)
     go (Err Cut) q c r e = impossible cc
     go (Err Other) q (Ok f) r e =
-        let ez : signed_of f s ≡ z = cc in
-        let ek : 1 + f ≡ k = cc in
-        rw (← ez, ← ek) (number_short Signed signed_of signed_test signed-short tt s o f r)
+        let p = ok_parts e in
+        rw (← p.0, ← p.1) (number_short Signed signed_of signed_test signed-short tt s o f r)
     go (Err Other) q (Err Cut) r e = impossible cc
     go (Err Other) q (Err Other) r e = impossible cc
 

@@ -122,11 +122,11 @@ signed_high s (suc f) n h k e g l b =
     rw (← e, le-ltb n (2 ^ (8 * suc f - 1)) m) (ap BelowZero q)
 
 -- an integer counted from `at` before, by the unsigned number counted so
-pub adding-shift : (at : ℕ) (u : Natural) (z : Integer) → shift_integer at (adding u z) ≡ adding (shift_natural at u) (shift_integer at z)
+pub adding_shift : (at : ℕ) (u : Natural) (z : Integer) → shift_integer at (adding u z) ≡ adding (shift_natural at u) (shift_integer at z)
 unfolding adding
-adding-shift at (Ok (m, f)) z = refl
-adding-shift at (Err Cut) z = refl
-adding-shift at (Err Other) z = refl
+adding_shift at (Ok (m, f)) z = refl
+adding_shift at (Err Cut) z = refl
+adding_shift at (Err Other) z = refl
 
 -- ---- headers
 

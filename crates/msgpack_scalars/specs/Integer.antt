@@ -39,8 +39,7 @@ natural_of (suc f) s = number (take (suc f) (drop 1 s))
 
 unfoldable pub unsigned_by : Due → Bytes → Natural
 unsigned_by (Ok f) s = Ok (natural_of f s, 1 + f)
-unsigned_by (Err Cut) s = Err Cut
-unsigned_by (Err Other) s = Err Other
+unsigned_by (Err e) s = Err e
 
 -- "Unsigned" means forms 00 to 7f and cc to cf: the first bytes of kind Unsigned (computed in Examples)
 unfoldable pub unsigned : Bytes → Natural
@@ -57,8 +56,7 @@ signed_of (suc f) s = twos_complement (suc f) (natural_of (suc f) s)
 
 unfoldable pub signed_by : Due → Bytes → Integer
 signed_by (Ok f) s = Ok (signed_of f s, 1 + f)
-signed_by (Err Cut) s = Err Cut
-signed_by (Err Other) s = Err Other
+signed_by (Err e) s = Err e
 
 unfoldable pub signed : Bytes → Integer
 signed s = signed_by (due Signed s) s
@@ -75,10 +73,8 @@ integer s = adding (unsigned s) (signed s)
 -- the same, counted from k bytes before
 abbrev pub shift_natural : ℕ → Natural → Natural
 shift_natural k (Ok (n, e)) = Ok (n, k + e)
-shift_natural k (Err Cut) = Err Cut
-shift_natural k (Err Other) = Err Other
+shift_natural k (Err e) = Err e
 
 abbrev pub shift_integer : ℕ → Integer → Integer
 shift_integer k (Ok (z, e)) = Ok (z, k + e)
-shift_integer k (Err Cut) = Err Cut
-shift_integer k (Err Other) = Err Other
+shift_integer k (Err e) = Err e

@@ -1,14 +1,13 @@
 // Unsigned numbers, integers, and the headers of strings, arrays and maps.
 #![tactic(auto)]
 
-ghost use Rattle.std.specs.Prelude.{◌≡◌, ◌+◌, ◌-◌, ◌*◌, ◌^◌, ◌<◌, ◌≤◌, length, drop};
-ghost use Rattle.msgpack_scalars.specs.Start.{scalar_of, array_by, map_by, start_by, Few};
+ghost use Rattle.std.specs.Prelude.{◌≡◌, ◌+◌, ◌-◌, ◌*◌, ◌^◌, ◌<◌, ◌≤◌, max, length, drop};
+ghost use Rattle.msgpack_scalars.specs.Start.{scalar_of, start_by, Few};
 ghost use Rattle.msgpack_scalars.specs.Integer.{due, natural_of, signed_of, unsigned, signed, integer, shift_natural, shift_integer};
 ghost use Rattle.msgpack_scalars.specs.Header.{counted, header, shift_header};
 
 use msgpack_first_bytes::{Form, Kind};
 
-// An unsigned number and the place after it; cut short; or the first byte starts none.
 // Why no number is read: its bytes have not all come, or the first byte starts none of the kind.
 #[derive(Clone, Copy, PartialEq, Eq)]
 pub enum NoNumber {
@@ -16,6 +15,7 @@ pub enum NoNumber {
     Other,
 }
 
+// An unsigned number, and the place after it.
 pub type Natural = Result<(u64, usize), NoNumber>;
 
 // An integer: FromZero(n) is n, BelowZero(m) is -1 - m.
@@ -25,10 +25,10 @@ pub enum Int {
     BelowZero(u64),
 }
 
-// An integer and the place after it; cut short; or the first byte starts none.
+// An integer, and the place after it.
 pub type Integer = Result<(Int, usize), NoNumber>;
 
-// Whether a form begins what is asked for: its length bytes, and what is due by its first byte.
+// Where a form begins what is asked for: its length bytes, and what is due by its first byte.
 pub type Start = Option<(usize, usize)>;
 
 // How many bytes are due after the first byte of a number of one kind, and there.
@@ -50,49 +50,22 @@ fn scalar_start(kind: Kind, form: Form) -> Start
     ensures { result ≡ scalar_of kind form }
 {
     match form {
-        Form::Unused => None,
-        Form::Scalar(found, width, fixed) => {
-            if msgpack_first_bytes::same_kind(found, kind) {
-                Some((width, fixed))
-            } else {
-                None
-            }
+        Form::Scalar(found, width, fixed) if msgpack_first_bytes::same_kind(found, kind) => {
+            Some((width, fixed))
         }
-        Form::Array(_, _) => None,
-        Form::Map(_, _) => None,
+        _ => None,
     }
 }
 
-fn array_start(form: Form) -> Start
-    ensures { result ≡ array_by form }
-{
-    match form {
-        Form::Unused => None,
-        Form::Scalar(_, _, _) => None,
-        Form::Array(width, fixed) => Some((width, fixed)),
-        Form::Map(_, _) => None,
-    }
-}
-
-// In entries: the first byte counts a key and a value for each.
-fn map_start(form: Form) -> Start
-    ensures { result ≡ map_by form }
-{
-    match form {
-        Form::Unused => None,
-        Form::Scalar(_, _, _) => None,
-        Form::Array(_, _) => None,
-        Form::Map(width, fixed) => Some((width, fixed >> 1)),
-    }
-}
-
+// The start of what is asked for, a map's in entries: its first byte counts a key and a value for each.
 fn start_of(opening: Opening, form: Form) -> Start
     ensures { result ≡ start_by opening form }
 {
-    match opening {
-        Opening::String => scalar_start(Kind::String, form),
-        Opening::Array => array_start(form),
-        Opening::Map => map_start(form),
+    match (opening, form) {
+        (Opening::String, _) => scalar_start(Kind::String, form),
+        (Opening::Array, Form::Array(width, fixed)) => Some((width, fixed)),
+        (Opening::Map, Form::Map(width, fixed)) => Some((width, fixed >> 1)),
+        _ => None,
     }
 }
 
@@ -103,9 +76,7 @@ fn due_at(s: &[u8], at: usize, kind: Kind) -> Due
     if s.len() <= at {
         return Err(NoNumber::Cut);
     }
-    let Some((_, more)) = scalar_start(kind, msgpack_first_bytes::form_of(s[at])) else {
-        return Err(NoNumber::Other);
-    };
+    let (_, more) = scalar_start(kind, msgpack_first_bytes::form_of(s[at])).ok_or(NoNumber::Other)?;
     if s.len() - at <= more {
         return Err(NoNumber::Cut);
     }
@@ -115,26 +86,21 @@ fn due_at(s: &[u8], at: usize, kind: Kind) -> Due
 // The number of the first byte at `at` and the `more` bytes due after it.
 fn natural_of(s: &[u8], at: usize, more: usize) -> u64
     requires { (more ≤ 8) × (at + 1 + more ≤ length s.now) }
-    ensures { result ≡ natural_of more (drop at s.now) }
+    ensures { (result ≡ natural_of more (drop at s.now)) × (result < 2 ^ (8 * max more 1)) }
 {
     if more == 0 {
         return s[at] as u64;
     }
-    let Some(n) = msgpack_numbers::number_at(s, at + 1, more) else {
-        return 0;
-    };
-    n
+    msgpack_numbers::number_at(s, at + 1, more).unwrap_or(0)
 }
 
 // The unsigned number at `at`, by the form of its first byte.
+#[tactic(auto, using(msgpack_first_bytes::proofs::Logic::error_left), unfolding(crate::specs::Integer::unsigned, crate::specs::Integer::unsigned_by))]
 fn unsigned_by_form(s: &[u8], at: usize) -> Natural
     ensures { result ≡ shift_natural at (unsigned (drop at s.now)) }
 {
-    match due_at(s, at, Kind::Unsigned) {
-        Ok(more) => Ok((natural_of(s, at, more), at + (1 + more))),
-        Err(NoNumber::Cut) => Err(NoNumber::Cut),
-        Err(NoNumber::Other) => Err(NoNumber::Other),
-    }
+    let more = due_at(s, at, Kind::Unsigned)?;
+    Ok((natural_of(s, at, more), at + (1 + more)))
 }
 
 // The unsigned number at `at`. One from 0 to 127 is told here, so that the compiler has no call to make.
@@ -158,17 +124,15 @@ fn sign_bit(width: usize) -> u64
     1 << ((width << 3) - 1)
 }
 
-// The same number in two's complement.
+// The same number in two's complement; a first byte alone is that byte less 256.
 fn signed_of(s: &[u8], at: usize, more: usize) -> Int
     requires { (more ≤ 8) × (at + 1 + more ≤ length s.now) }
     ensures { result ≡ signed_of more (drop at s.now) }
 {
+    let n = natural_of(s, at, more);
     if more == 0 {
-        return Int::BelowZero((255 - s[at]) as u64);
+        return Int::BelowZero(255 - n);
     }
-    let Some(n) = msgpack_numbers::number_at(s, at + 1, more) else {
-        return Int::FromZero(0);
-    };
     let half = sign_bit(more);
     if n < half {
         return Int::FromZero(n);
@@ -177,17 +141,17 @@ fn signed_of(s: &[u8], at: usize, more: usize) -> Int
 }
 
 // The integer of a signed form at `at`.
+// Stays: beside `unsigned_by_form`, which differs in kind and reading; one function over a closure would be longer.
+#[tactic(auto, using(msgpack_first_bytes::proofs::Logic::error_left), unfolding(crate::specs::Integer::signed, crate::specs::Integer::signed_by))]
 fn signed_at(s: &[u8], at: usize) -> Integer
     ensures { result ≡ shift_integer at (signed (drop at s.now)) }
 {
-    match due_at(s, at, Kind::Signed) {
-        Ok(more) => Ok((signed_of(s, at, more), at + (1 + more))),
-        Err(NoNumber::Cut) => Err(NoNumber::Cut),
-        Err(NoNumber::Other) => Err(NoNumber::Other),
-    }
+    let more = due_at(s, at, Kind::Signed)?;
+    Ok((signed_of(s, at, more), at + (1 + more)))
 }
 
 // The integer at `at`.
+#[tactic(auto, using(crate::proofs::Laws::adding_shift), unfolding(crate::specs::Integer::adding, crate::specs::Integer::integer))]
 pub fn integer_at(s: &[u8], at: usize) -> Integer
     ensures { result ≡ shift_integer at (integer (drop at s.now)) }
 {
@@ -203,12 +167,8 @@ fn counted_at(s: &[u8], at: usize, start: Start) -> Header
     requires { (at < length s.now) × Few 31 start }
     ensures { result ≡ shift_header at (counted start (drop (at + 1) s.now)) }
 {
-    let Some((width, fixed)) = start else {
-        return None;
-    };
-    let Some(n) = msgpack_numbers::number_at(s, at + 1, width) else {
-        return None;
-    };
+    let (width, fixed) = start?;
+    let n = msgpack_numbers::number_at(s, at + 1, width)?;
     Some((n as usize + fixed, at + (1 + width)))
 }
 

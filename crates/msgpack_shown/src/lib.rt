@@ -3,7 +3,7 @@
 
 ghost use Rattle.std.specs.Prelude.{◌≡◌};
 ghost use Rattle.msgpack_meanings.specs.Meaning.{alone};
-ghost use Rattle.msgpack_shown.specs.Shown.{bit, by_bits, by_content, integer_shown, meaning_shown, shown};
+ghost use Rattle.msgpack_shown.specs.Shown.{by_bits, by_content, integer_shown, meaning_shown, shown};
 
 use msgpack_meanings::Meaning;
 use msgpack_scalars::Int;
@@ -11,6 +11,7 @@ use msgpack_values::OptionalNumber;
 
 // The answer for a value read alone, as C sees it: 0 with its kind, length and content, or 4 with the place of the first byte that
 // spoils it, and else 0.
+// Stays: numbers for kinds and for the refusal, the C interface.
 #[repr(C)]
 #[derive(Clone, Copy)]
 pub struct ValueAnswer {
@@ -22,12 +23,6 @@ pub struct ValueAnswer {
     pub size: usize,
     pub ext_type: u8,
     pub place: OptionalNumber,
-}
-
-fn bit(b: bool) -> u64
-    ensures { result ≡ bit b }
-{
-    if b { 1 } else { 0 }
 }
 
 // A value that is told by its bits.
@@ -58,22 +53,23 @@ fn by_content(kind: u32, start: usize, size: usize, ext_type: u8) -> ValueAnswer
     }
 }
 
+#[tactic(auto, unfolding(crate::specs::Shown::integer_shown))]
 fn integer_shown(z: Int) -> ValueAnswer
     ensures { result ≡ integer_shown z }
 {
     match z {
         Int::FromZero(n) => by_bits(2, n),
-        Int::BelowZero(m) => by_bits(3, 0xffff_ffff_ffff_ffff - m),
+        Int::BelowZero(m) => by_bits(3, u64::MAX - m),
     }
 }
 
+#[tactic(auto, unfolding(crate::specs::Shown::meaning_shown))]
 fn meaning_shown(meaning: Meaning) -> ValueAnswer
     ensures { result ≡ meaning_shown meaning }
 {
     match meaning {
-        Meaning::Absent => by_bits(0, 0),
-        Meaning::Nil => by_bits(0, 0),
-        Meaning::Boolean(b) => by_bits(1, bit(b)),
+        Meaning::Absent | Meaning::Nil => by_bits(0, 0),
+        Meaning::Boolean(b) => by_bits(1, u64::from(b)),
         Meaning::Integer(z) => integer_shown(z),
         Meaning::Float32(_, bits) => by_bits(4, bits as u64),
         Meaning::Float64(_, bits) => by_bits(5, bits),
@@ -86,6 +82,7 @@ fn meaning_shown(meaning: Meaning) -> ValueAnswer
 }
 
 // The value at the front of `bytes`, held to depth 16; nothing past its end is judged.
+#[tactic(auto, unfolding(crate::specs::Shown::shown))]
 pub fn read_shown(bytes: &[u8]) -> ValueAnswer
     ensures { result ≡ shown (alone bytes.now) }
 {

@@ -23,7 +23,7 @@ module _ (old : Bytes) (at : ℕ) (p : Bytes) where
   front : at + length p ≤ length old → length (take at old) ≡ at
   front h = length-take-le at old (omega arith)
 
-  laid : {cur : Bytes} {a : ℕ} → at + length p ≤ length old → a ≡ at + length p → cur ≡ take at old ++ (p ++ drop (at + length p) old) → Wrote old at p cur a
+  pub laid : {cur : Bytes} {a : ℕ} → at + length p ≤ length old → a ≡ at + length p → cur ≡ take at old ++ (p ++ drop (at + length p) old) → Wrote old at p cur a
   laid h e s =
       record {
         room = h;

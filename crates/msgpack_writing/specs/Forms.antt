@@ -11,6 +11,13 @@ big_endian (suc w) n = big_endian w (n / 256) ++ (n % 256 ∷ [])
 abbrev pub tagged : ℕ → ℕ → ℕ → Bytes
 tagged b w n = b ∷ big_endian w n
 
+-- as many bytes of x as hold n, 1, 2, 4 or 8: the first bytes of these forms follow one another, from `first` on
+abbrev pub long_form : ℕ → ℕ → ℕ → Bytes
+long_form first n x =
+    pick (ltb n (2 ^ 8)) (tagged first 1 x)
+    (pick (ltb n (2 ^ 16)) (tagged (first + 1) 2 x)
+    (pick (ltb n (2 ^ 32)) (tagged (first + 2) 4 x) (tagged (first + 3) 8 x)))
+
 -- "Numbers are written in the shortest form: unsigned forms from 0 up"
 unfoldable pub unsigned_form : ℕ → Bytes
 unsigned_form n =

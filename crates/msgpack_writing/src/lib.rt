@@ -1,25 +1,27 @@
 // Shortest numbers, the shortest headers of strings, arrays and maps, and copies, each written into the rest of a lent buffer.
 #![tactic(auto)]
 
-ghost use Rattle.std.specs.Prelude.{◌≡◌, ◌++◌, ◌+◌, ◌^◌, ◌<◌, ◌≤◌, length, drop};
-ghost use Rattle.msgpack_writing.specs.Forms.{tagged, unsigned_form, negative_form, string_header, count_header, array_header, map_header};
+ghost use Rattle.std.specs.Prelude.{◌≡◌, ◌++◌, ◌+◌, ◌^◌, ◌<◌, ◌≤◌, length, drop, [], ◌∷◌};
+ghost use Rattle.msgpack_writing.specs.Forms.{tagged, long_form, unsigned_form, negative_form, string_header, count_header, array_header, map_header};
 ghost use Rattle.msgpack_writing.specs.Put.{put, next};
 
-// A first byte, a number, and how many of its low bytes follow.
+// A first byte, and the number of which the `width` low bytes follow.
 #[derive(Clone, Copy)]
-struct Head(u8, u64, usize);
+struct Head {
+    tag: u8,
+    number: u64,
+    width: usize,
+}
 
-// From the last byte to the first, at the front of `out`.
+// From the last byte to the first, at the front of `out`, since each byte is what the later ones leave of the number.
 fn put_tagged(out: &mut [u8], tag: u8, n: u64, width: usize)
     requires { width < length out.old }
     ensures { out.new ≡ tagged tag width n ++ drop (width + 1) out.old }
 {
-    let mut i = width;
     let mut high = n;
-    while 0 < i {
-        out[i] = (high % 256) as u8;
-        high = high >> 8;
-        i -= 1;
+    for i in (0..width).rev() {
+        out[i + 1] = (high % 256) as u8;
+        high >>= 8;
     }
     out[0] = tag;
 }
@@ -40,28 +42,49 @@ pub fn write_tagged(out: &mut [u8], at: usize, tag: u8, n: u64, width: usize) ->
 }
 
 fn write_head(out: &mut [u8], at: usize, h: Head) -> usize
-    ensures { (result ≡ next at (tagged h.0 h.2 h.1) out.old)
-        × (out.new ≡ put at (tagged h.0 h.2 h.1) out.old) }
+    ensures { (result ≡ next at (tagged h.tag h.width h.number) out.old)
+        × (out.new ≡ put at (tagged h.tag h.width h.number) out.old) }
 {
-    write_tagged(out, at, h.0, h.1, h.2)
+    write_tagged(out, at, h.tag, h.number, h.width)
+}
+
+// A form whose first byte says all.
+fn short_head(tag: u8) -> Head
+    ensures { tagged result.tag result.width result.number ≡ tag ∷ [] }
+{
+    Head {
+        tag,
+        number: 0,
+        width: 0,
+    }
+}
+
+// As many bytes of `number` as hold `n`: the first bytes of these forms follow one another, from `first` on.
+fn long_head(first: u8, n: u64, number: u64) -> Head
+    requires { first < 0xfd }
+    ensures { tagged result.tag result.width result.number ≡ long_form first n number }
+{
+    let (step, width) = match n {
+        0..=0xff => (0, 1),
+        0x100..=0xffff => (1, 2),
+        0x1_0000..=0xffff_ffff => (2, 4),
+        _ => (3, 8),
+    };
+    Head {
+        tag: first + step,
+        number,
+        width,
+    }
 }
 
 fn unsigned_head(n: u64) -> Head
-    ensures { tagged result.0 result.2 result.1 ≡ unsigned_form n }
+    ensures { tagged result.tag result.width result.number ≡ unsigned_form n }
 {
     if n < 128 {
-        return Head(n as u8, n, 0);
+        short_head(n as u8)
+    } else {
+        long_head(0xcc, n, n)
     }
-    if n < 0x100 {
-        return Head(0xcc, n, 1);
-    }
-    if n < 0x1_0000 {
-        return Head(0xcd, n, 2);
-    }
-    if n < 0x1_0000_0000 {
-        return Head(0xce, n, 4);
-    }
-    Head(0xcf, n, 8)
 }
 
 pub fn write_unsigned(out: &mut [u8], at: usize, n: u64) -> usize
@@ -75,27 +98,19 @@ pub fn write_unsigned(out: &mut [u8], at: usize, n: u64) -> usize
 pub fn unsigned_length(n: u64) -> usize
     ensures { result ≡ length (unsigned_form n) }
 {
-    unsigned_head(n).2 + 1
+    unsigned_head(n).width + 1
 }
 
-// The number -1 - m, in two's complement.
+// The number -1 - m, in two's complement: all bits of m turned, in as many bytes as hold 2 * m, since the highest is the sign.
 fn negative_head(m: u64) -> Head
     requires { m < 2 ^ 63 }
-    ensures { tagged result.0 result.2 result.1 ≡ negative_form m }
+    ensures { tagged result.tag result.width result.number ≡ negative_form m }
 {
     if m < 32 {
-        return Head(255 - m as u8, m, 0);
+        short_head(255 - m as u8)
+    } else {
+        long_head(0xd0, 2 * m, u64::MAX - m)
     }
-    if m < 0x80 {
-        return Head(0xd0, 0xff - m, 1);
-    }
-    if m < 0x8000 {
-        return Head(0xd1, 0xffff - m, 2);
-    }
-    if m < 0x8000_0000 {
-        return Head(0xd2, 0xffff_ffff - m, 4);
-    }
-    Head(0xd3, 0xffff_ffff_ffff_ffff - m, 8)
 }
 
 // The number -1 - m; nothing where it is below -2^63.
@@ -110,18 +125,14 @@ pub fn write_negative(out: &mut [u8], at: usize, m: u64) -> usize
 }
 
 fn string_head(n: u32) -> Head
-    ensures { tagged result.0 result.2 result.1 ≡ string_header n }
+    ensures { tagged result.tag result.width result.number ≡ string_header n }
 {
     if n < 32 {
-        return Head(0xa0 + n as u8, n as u64, 0);
+        short_head(0xa0 + n as u8)
+    } else {
+        let number = u64::from(n);
+        long_head(0xd9, number, number)
     }
-    if n < 0x100 {
-        return Head(0xd9, n as u64, 1);
-    }
-    if n < 0x1_0000 {
-        return Head(0xda, n as u64, 2);
-    }
-    Head(0xdb, n as u64, 4)
 }
 
 // What stands before a string of n bytes.
@@ -136,21 +147,28 @@ pub fn write_string_header(out: &mut [u8], at: usize, n: u32) -> usize
 pub fn string_header_length(n: u32) -> usize
     ensures { result ≡ length (string_header n) }
 {
-    string_head(n).2 + 1
+    string_head(n).width + 1
 }
 
 // A count of an array or a map: the first bytes of its short forms begin at `short`, those of its longer ones at `long`.
 fn count_head(short: u8, long: u8, n: u32) -> Head
     requires { (short ≤ 0xf0) × (long ≤ 0xfe) }
-    ensures { tagged result.0 result.2 result.1 ≡ count_header short long n }
+    ensures { tagged result.tag result.width result.number ≡ count_header short long n }
 {
-    if n < 16 {
-        return Head(short + n as u8, n as u64, 0);
+    let number = u64::from(n);
+    match n {
+        0..=15 => short_head(short + n as u8),
+        16..=0xffff => Head {
+            tag: long,
+            number,
+            width: 2,
+        },
+        _ => Head {
+            tag: long + 1,
+            number,
+            width: 4,
+        },
     }
-    if n < 0x1_0000 {
-        return Head(long, n as u64, 2);
-    }
-    Head(long + 1, n as u64, 4)
 }
 
 // What stands before the n values of an array.
@@ -165,7 +183,7 @@ pub fn write_array_header(out: &mut [u8], at: usize, n: u32) -> usize
 pub fn array_header_length(n: u32) -> usize
     ensures { result ≡ length (array_header n) }
 {
-    count_head(0x90, 0xdc, n).2 + 1
+    count_head(0x90, 0xdc, n).width + 1
 }
 
 // What stands before the n entries of a map.
@@ -174,18 +192,6 @@ pub fn write_map_header(out: &mut [u8], at: usize, n: u32) -> usize
         × (out.new ≡ put at (map_header n) out.old) }
 {
     write_head(out, at, count_head(0x80, 0xde, n))
-}
-
-// All of `bytes`, at the front of `out`.
-fn put_bytes(out: &mut [u8], bytes: &[u8])
-    requires { length bytes.now ≤ length out.old }
-    ensures { out.new ≡ bytes.now ++ drop (length bytes.now) out.old }
-{
-    let mut i: usize = 0;
-    while i < bytes.len() {
-        out[i] = bytes[i];
-        i += 1;
-    }
 }
 
 // A copy of `bytes`.
@@ -199,6 +205,6 @@ pub fn write_bytes(out: &mut [u8], at: usize, bytes: &[u8]) -> usize
     if out.len() - at < bytes.len() {
         return at;
     }
-    put_bytes(&mut out[at..], bytes);
+    out[at..at + bytes.len()].copy_from_slice(bytes);
     at + bytes.len()
 }

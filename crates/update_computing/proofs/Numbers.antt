@@ -25,16 +25,16 @@ computed_by None = Err OutOfRange
 
 sum-ranged : (k : ℤ) → Computes (became 0 (ranged k)) (computed_by (in_range k))
 unfolding in_range ranged became
-sum-ranged (pos n) = by_ltb (λ (s : (Option Int)). Computes (became 0 (ranged (pos n))) (computed_by s)) n (2 ^ 64) (λ h. (rw (lt-ltb n (2 ^ 64) h), h)) (λ h. (rw (le-ltb n (2 ^ 64) h), tt))
-sum-ranged (negsuc m) = by_ltb (λ (s : (Option Int)). Computes (became 0 (ranged (negsuc m))) (computed_by s)) m (2 ^ 63) (λ h. (rw (lt-ltb m (2 ^ 63) h), h)) (λ h. (rw (le-ltb m (2 ^ 63) h), tt))
+sum-ranged (pos n) = by_ltb (λ (s : Option Int). Computes (became 0 (ranged (pos n))) (computed_by s)) n (2 ^ 64) (λ h. (rw (lt-ltb n (2 ^ 64) h), h)) (λ h. (rw (le-ltb n (2 ^ 64) h), tt))
+sum-ranged (negsuc m) = by_ltb (λ (s : Option Int). Computes (became 0 (ranged (negsuc m))) (computed_by s)) m (2 ^ 63) (λ h. (rw (lt-ltb m (2 ^ 63) h), h)) (λ h. (rw (le-ltb m (2 ^ 63) h), tt))
 
 -- what `+` or `-` makes of the field that was read
 abbrev sum_of : Bool → Int → Option (Int × ℕ) → Edit
 sum_of less v (Some (z, e)) = became 0 (ranged (pick less (asℤ z -ℤ asℤ v) (asℤ z +ℤ asℤ v)))
 sum_of less v None = refuse Unsuited
 
-module _ (less : Bool) (v : Int) (field : Bytes) {r : (Option (Int × ℕ))} (h : r ≡ signed_by field (any_integer field)) where
-  sum_told : {x : (Option (Int × ℕ))} → r ≡ x → sum_edit less v field ≡ sum_of less v x
+module _ (less : Bool) (v : Int) (field : Bytes) {r : Option (Int × ℕ)} (h : r ≡ signed_by field (any_integer field)) where
+  sum_told : {x : Option (Int × ℕ)} → r ≡ x → sum_edit less v field ≡ sum_of less v x
   unfolding edit_at altered suited
   sum_told q = go less (any_integer field) refl ∙ ap (sum_of less v) (sym h ∙ q)
     where
@@ -47,11 +47,11 @@ module _ (less : Bool) (v : Int) (field : Bytes) {r : (Option (Int × ℕ))} (h 
   pub sum_unsuited : r ≡ None → Computes (sum_edit less v field) (Err Unsuited)
   sum_unsuited q = (sum_told q, tt)
 
-  pub sum_is : {z : Int} {e : ℕ} → r ≡ Some (z, e) → {s t : (Option Int)} → s ≡ in_range (pick less (asℤ z -ℤ asℤ v) (asℤ z +ℤ asℤ v)) → s ≡ t
+  pub sum_is : {z : Int} {e : ℕ} → r ≡ Some (z, e) → {s t : Option Int} → s ≡ in_range (pick less (asℤ z -ℤ asℤ v) (asℤ z +ℤ asℤ v)) → s ≡ t
       → Computes (sum_edit less v field) (computed_by t)
   sum_is {z} q {s} {t} i j =
       let k = sum-ranged (pick less (asℤ z -ℤ asℤ v) (asℤ z +ℤ asℤ v)) in
-      subst (λ (x : (Option Int)). Computes (sum_edit less v field) (computed_by x)) (sym i ∙ j) (sum_told q ∙ k.0, k.1)
+      subst (λ (x : Option Int). Computes (sum_edit less v field) (computed_by x)) (sym i ∙ j) (sum_told q ∙ k.0, k.1)
 
 -- ---- bit by bit
 
@@ -59,8 +59,8 @@ abbrev bits_of : Bitwise → ℕ → Option (ℕ × ℕ) → Edit
 bits_of g v (Some (n, e)) = put 0 (integer_form (FromZero (bitwise_of g n v)))
 bits_of g v None = refuse Unsuited
 
-module _ (by : Bitwise) (v : ℕ) (field : Bytes) {r : (Option (ℕ × ℕ))} (h : r ≡ natural_by field (at_least 0 field)) where
-  bits_told : {x : (Option (ℕ × ℕ))} → r ≡ x → bits_edit by v field ≡ bits_of by v x
+module _ (by : Bitwise) (v : ℕ) (field : Bytes) {r : Option (ℕ × ℕ)} (h : r ≡ natural_by field (at_least 0 field)) where
+  bits_told : {x : Option (ℕ × ℕ)} → r ≡ x → bits_edit by v field ≡ bits_of by v x
   unfolding edit_at altered suited became
   bits_told q = go by (at_least 0 field) refl ∙ ap (bits_of by v) (sym h ∙ q)
     where

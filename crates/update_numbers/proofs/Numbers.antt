@@ -1,6 +1,6 @@
 -- An integer, held to a bound, or with the base taken off. Assumes nothing.
-use Rattle.std.specs.Prelude.{Some, None, Option}
-use mathlib.Core.Path.{◌≡◌, refl, sym, ap, ◌∙◌}
+use Rattle.std.specs.Prelude.{Some, None, Option, SomeIff}
+use mathlib.Core.Path.{◌≡◌, refl, ap, ◌∙◌}
 use mathlib.Core.Bool.{Bool, true, false}
 use Prim.Native.Nat.{ℕ, ◌-◌, ◌<◌, ◌≤◌}
 use native.Mathlib.Omega.{arith}
@@ -13,20 +13,18 @@ use Rattle.tuples.specs.Decoding.{Got, fails, gets, Decoder, on_got, then, any_i
 use Rattle.update_parts.specs.Part.{signed_by, natural_by}
 use Rattle.update_numbers.specs.FieldNumber.{field_by, Field}
 
-abbrev pub on_signed : (Int → ℕ → (Option (ℕ × ℕ))) → Option (Int × ℕ) → Option (ℕ × ℕ)
+-- what follows an integer that was read, if one was
+abbrev pub on_signed : (Int → ℕ → Option (ℕ × ℕ)) → Option (Int × ℕ) → Option (ℕ × ℕ)
 on_signed of (Some (z, e)) = of z e
 on_signed of None = None
 
 -- ---- a number, from which the base is taken off
 
 module _ (base : ℕ) {z : Int} where
-  pub field_at : {n : ℕ} → z ≡ FromZero n → base ≤ n → Some (n - base) ≡ field_by (less base z)
+  pub field-from : {n : ℕ} → z ≡ FromZero n → (r : Option ℕ) → SomeIff r (base ≤ n) (n - base) → r ≡ field_by (less base z)
   unfolding less
-  field_at {n} q h = rw (q, le-leb base n h)
-
-  pub field-before : {n : ℕ} → z ≡ FromZero n → n < base → None ≡ field_by (less base z)
-  unfolding less
-  field-before {n} q h = rw (q, lt-leb base n h)
+  field-from {n} q (Some x) h = rw (q, le-leb base n h.0) (ap Some h.1)
+  field-from {n} q None h = rw (q, lt-leb base n (omega (arith, h)))
 
   pub field_below : {m : ℕ} → z ≡ BelowZero m → None ≡ field_by (less base z)
   unfolding less
@@ -55,21 +53,21 @@ field_least : (z : Int) (e : ℕ) → field_in (field_by z) e ≡ least_in 0 z e
 field_least (FromZero n) e = rw (le-leb 0 n (omega arith))
 field_least (BelowZero m) e = refl
 
-module _ (l s : Bytes) {r : (Option (Int × ℕ))} (h : r ≡ signed_by l (any_integer s)) where
+module _ (l s : Bytes) {r : Option (Int × ℕ)} (h : r ≡ signed_by l (any_integer s)) where
   -- what follows the integer is next
-  then-integer : (next : Int → Decoder ℕ) (of : Int → ℕ → (Option (ℕ × ℕ))) → ((z : Int) (s : Bytes) → of z (length l - length s) ≡ natural_by l (next z s))
-      → {x : (Option (Int × ℕ))} → r ≡ x → on_signed of x ≡ natural_by l (then any_integer next s)
+  then-integer : (next : Int → Decoder ℕ) (of : Int → ℕ → Option (ℕ × ℕ)) → ((z : Int) (s : Bytes) → of z (length l - length s) ≡ natural_by l (next z s))
+      → on_signed of r ≡ natural_by l (then any_integer next s)
   unfolding then on_got
-  then-integer next of f q = ap (on_signed of) (sym q ∙ h) ∙ go (any_integer s)
+  then-integer next of f = ap (on_signed of) h ∙ go (any_integer s)
     where
       go : (g : Got Int) → on_signed of (signed_by l g) ≡ natural_by l (on_got g next)
       go fails = refl
       go (gets z s) = f z s
 
-  pub least : (low : ℕ) {x : (Option (Int × ℕ))} → r ≡ x → on_signed (least_in low) x ≡ natural_by l (at_least low s)
+  pub least : (low : ℕ) → on_signed (least_in low) r ≡ natural_by l (at_least low s)
   unfolding at_least
-  least low q = then-integer (floor low) (least_in low) (floor-is l low) q
+  least low = then-integer (floor low) (least_in low) (floor-is l low)
 
-  pub position-is : (base : ℕ) {x : (Option (Int × ℕ))} → r ≡ x → on_signed (λ z. field_in (field_by (less base z))) x ≡ natural_by l (position base s)
+  pub position-is : (base : ℕ) → on_signed (λ z. field_in (field_by (less base z))) r ≡ natural_by l (position base s)
   unfolding position
-  position-is base q = then-integer (λ z. floor 0 (less base z)) (λ z. field_in (field_by (less base z))) (λ z s. field_least (less base z) (length l - length s) ∙ floor-is l 0 (less base z) s) q
+  position-is base = then-integer (λ z. floor 0 (less base z)) (λ z. field_in (field_by (less base z))) (λ z s. field_least (less base z) (length l - length s) ∙ floor-is l 0 (less base z) s)

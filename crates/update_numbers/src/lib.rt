@@ -37,7 +37,8 @@ pub fn any_integer(s: &[u8], at: usize) -> Option<(Int, usize)>
 pub fn at_least(s: &[u8], at: usize, low: u64) -> Option<(u64, usize)>
     ensures { result ≡ natural_by s.now (at_least low (drop at s.now)) }
 {
-    let (Int::FromZero(n), end) = any_integer(s, at)? else {
+    let (z, end) = any_integer(s, at)?;
+    let Int::FromZero(n) = z else {
         return None;
     };
     if n < low {

@@ -20,42 +20,42 @@ use Rattle.update_operations.specs.Found.{placed, action_by, natural_mark, whole
 use Rattle.update_operations.specs.declared.Change.TheVariants.{Splice}
 use Rattle.update_operations.specs.declared.Action.{Action, TheVariants.Alter, TheVariants.Assign, TheVariants.Insert}
 use Rattle.update_parts.proofs.Leaving.{Ends, Leaving, part-is, leaving_nothing, leaving_pick, leaving_then, leaving_made, leaving_value, leaving_integer, leaving_least, leaving_position, leaving_string}
-use Rattle.update_operations.proofs.Answers.{on_signed, on_natural, on_span, made-is, then_is}
+use Rattle.update_operations.proofs.Answers.{on_part, made-is, then_is}
 
-abbrev is : Law.Action → ℕ → Option (Action × ℕ)
-is a e = Some (placed a e, e)
+abbrev is : Law.Action → ℕ → Action × ℕ
+is a e = (placed a e, e)
 
 abbrev pub by_span : (ℕ → Action) → Bytes → Got Bytes → Option (Action × ℕ)
-by_span K l g = on_span (λ a. (λ a. Some ((K a), a))) None (span_by l g)
+by_span K l g = on_part (λ a e. Some (K a, e)) (span_by l g)
 
 span : (K : ℕ → Action) (k : Bytes → Law.Action) (l : Bytes) → ((b : Bytes) (e : ℕ) → K (e - length b) ≡ placed (k b) e)
     → (d : Decoder Bytes) (s : Bytes) → by_span K l (d s) ≡ action_by l (made k d s)
-span K k l f d s = made-is (λ b e. Some (e - length b, e)) None is None (on_span (λ a. (λ a. Some ((K a), a))) None) l refl k (λ b e. ap (λ x. Some (x, e)) (f b e)) d s
+span K k l f d s = made-is (λ b e. (e - length b, e)) is (on_part (λ a e. Some (K a, e))) l refl k (λ b e. ap (λ x. Some (x, e)) (f b e)) d s
 
 -- ---- an array of three, by what the code reads for its mark
 
-abbrev by_signed : (Int → ℕ → (Option (Action × ℕ))) → Bytes → Bytes → Option (Action × ℕ)
-by_signed K l s = on_signed K None (signed_by l (any_integer s))
+abbrev by_signed : (Int → ℕ → Option (Action × ℕ)) → Bytes → Bytes → Option (Action × ℕ)
+by_signed K l s = on_part K (signed_by l (any_integer s))
 
 -- an integer that is `low` at least
-least : (c low : ℕ) (k : ℕ → Law.Action) (l s : Bytes) → ((n e : ℕ) → natural_mark c n e ≡ pick (leb low n) (is (k n) e) None)
+least : (c low : ℕ) (k : ℕ → Law.Action) (l s : Bytes) → ((n e : ℕ) → natural_mark c n e ≡ pick (leb low n) (Some (is (k n) e)) None)
     → by_signed (whole_mark c) l s ≡ action_by l (made k (at_least low) s)
 unfolding made at_least then on_got floor
 least c low k l s f = go (any_integer s)
   where
-    held : (t : Bool) (n : ℕ) (r : Bytes) → pick t (is (k n) (length l - length r)) None ≡ action_by l (on_got (pick t (gets n r) fails) (λ a r. gets (k a) r))
+    held : (t : Bool) (n : ℕ) (r : Bytes) → pick t (Some (is (k n) (length l - length r))) None ≡ action_by l (on_got (pick t (gets n r) fails) (λ a r. gets (k a) r))
     held true n r = refl
     held false n r = refl
 
-    go : (g : Got Int) → on_signed (whole_mark c) None (signed_by l g) ≡ action_by l (on_got (on_got g (floor low)) (λ a r. gets (k a) r))
+    go : (g : Got Int) → on_part (whole_mark c) (signed_by l g) ≡ action_by l (on_got (on_got g (floor low)) (λ a r. gets (k a) r))
     go fails = refl
     go (gets (FromZero n) r) = f n (length l - length r) ∙ held (leb low n) n r
     go (gets (BelowZero m) r) = refl
 
-from_0 : (x : (Option (Action × ℕ))) (n : ℕ) → x ≡ pick (leb 0 n) x None
+from_0 : (x : Option (Action × ℕ)) (n : ℕ) → x ≡ pick (leb 0 n) x None
 from_0 x n = rw (le-leb 0 n (omega arith))
 
-from_1 : (n e : ℕ) → natural_mark 0x23 n e ≡ pick (leb 1 n) (is (remove n) e) None
+from_1 : (n e : ℕ) → natural_mark 0x23 n e ≡ pick (leb 1 n) (Some (is (remove n) e)) None
 from_1 zero e = refl
 from_1 (suc n) e = rw (le-leb 1 (suc n) (omega arith), ne_eqb (suc n) 0 (λ h. omega arith))
 
@@ -70,15 +70,15 @@ module _ (l s : Bytes) where
   abbrev Three : ℕ → Type 0
   Three c = three_by (eqb c 0x3d || eqb c 0x21) c ≡ action_by l (three c s)
 
-  signed : (k : Int → Law.Action) → by_signed (λ z e. is (k z) e) l s ≡ action_by l (made k any_integer s)
-  signed k = made-is Some (None, is) None (on_signed (λ z e. is (k z) e) None) l refl k (λ _ _. refl) any_integer s
+  signed : (k : Int → Law.Action) → by_signed (λ z e. Some (is (k z) e)) l s ≡ action_by l (made k any_integer s)
+  signed k = made-is (λ z e. (z, e)) is (on_part (λ z e. Some (is (k z) e))) l refl k (λ _ _. refl) any_integer s
 
   three_other : (c : ℕ) → (c ≡ 0x3d → ⊥) → (c ≡ 0x21 → ⊥) → (c ≡ 0x2b → ⊥) → (c ≡ 0x2d → ⊥) → (c ≡ 0x26 → ⊥) → (c ≡ 0x5e → ⊥) → (c ≡ 0x7c → ⊥) → (c ≡ 0x23 → ⊥) → Three c
   unfolding three_by three nothing
   three_other c h1 h2 h3 h4 h5 h6 h7 h8 =
       rw (ne_eqb c 0x3d h1, ne_eqb c 0x21 h2, ne_eqb c 0x2b h3, ne_eqb c 0x2d h4, ne_eqb c 0x26 h5, ne_eqb c 0x5e h6, ne_eqb c 0x7c h7, ne_eqb c 0x23 h8) (go (any_integer s))
     where
-      go : (g : Got Int) → on_signed (integer_mark c) None (signed_by l g) ≡ None
+      go : (g : Got Int) → on_part (integer_mark c) (signed_by l g) ≡ None
       go fails = refl
       go (gets (FromZero n) r) = rw (ne_eqb c 0x2b h3, ne_eqb c 0x2d h4, ne_eqb c 0x26 h5, ne_eqb c 0x5e h6, ne_eqb c 0x7c h7, ne_eqb c 0x23 h8)
       go (gets (BelowZero m) r) = rw (ne_eqb c 0x2b h3, ne_eqb c 0x2d h4)
@@ -90,9 +90,9 @@ module _ (l s : Bytes) where
       by_mark Three c 0x21 (span Insert insert l (λ _ _. refl) any_value s) (λ h2.
       by_mark Three c 0x2b (signed plus) (λ h3.
       by_mark Three c 0x2d (signed minus) (λ h4.
-      by_mark Three c 0x26 (least 0x26 0 and l s (λ n e. from_0 (is (and n) e) n)) (λ h5.
-      by_mark Three c 0x5e (least 0x5e 0 xor l s (λ n e. from_0 (is (xor n) e) n)) (λ h6.
-      by_mark Three c 0x7c (least 0x7c 0 or l s (λ n e. from_0 (is (or n) e) n)) (λ h7.
+      by_mark Three c 0x26 (least 0x26 0 and l s (λ n e. from_0 (Some (is (and n) e)) n)) (λ h5.
+      by_mark Three c 0x5e (least 0x5e 0 xor l s (λ n e. from_0 (Some (is (xor n) e)) n)) (λ h6.
+      by_mark Three c 0x7c (least 0x7c 0 or l s (λ n e. from_0 (Some (is (or n) e)) n)) (λ h7.
       by_mark Three c 0x23 (least 0x23 1 remove l s from_1) (λ h8. three_other c h1 h2 h3 h4 h5 h6 h7 h8))))))))
 
 -- the value of the marks `=` and `!`, and the integer of the others
@@ -101,19 +101,19 @@ module _ (l : Bytes) (at c : ℕ) where
   unfolding three_by
   three-value e = rw e at (three-is l (drop at l) c)
 
-  pub three-integer : (eqb c 0x3d || eqb c 0x21) ≡ false → on_signed (integer_mark c) None (signed_by l (any_integer (drop at l))) ≡ action_by l (three c (drop at l))
+  pub three-integer : (eqb c 0x3d || eqb c 0x21) ≡ false → on_part (integer_mark c) (signed_by l (any_integer (drop at l))) ≡ action_by l (three c (drop at l))
   unfolding three_by
   three-integer e = rw e at (three-is l (drop at l) c)
 
 -- ---- an array of five
 
 pub five-is : (l : Bytes) (at base : ℕ)
-    → on_natural (λ p e. on_natural (λ k j. by_span (λ a. Alter (Splice p k a)) l (string (drop j l))) None (natural_by l (at_least 0 (drop e l)))) None (natural_by l (position base (drop at l)))
+    → on_part (λ p e. on_part (λ k j. by_span (λ a. Alter (Splice p k a)) l (string (drop j l))) (natural_by l (at_least 0 (drop e l)))) (natural_by l (position base (drop at l)))
     ≡ action_by l (five base 0x3a (drop at l))
 unfolding five
 five-is l at base =
-    then_is Some (None, is) None (on_natural _ None) l refl (leaving_position base) _
-    (λ p. then_is Some (None, is) None (on_natural _ None) l refl (leaving_least 0) _ (λ k j. span (λ a. Alter (Splice p k a)) (splice p k) l (λ _ _. refl) string (drop j l))) at
+    then_is (λ p e. (p, e)) is (on_part _) l refl (leaving_position base) _
+    (λ p. then_is (λ k e. (k, e)) is (on_part _) l refl (leaving_least 0) _ (λ k j. span (λ a. Alter (Splice p k a)) (splice p k) l (λ _ _. refl) string (drop j l))) at
 
 pub five_other : (l : Bytes) (base c : ℕ) (s : Bytes) → (c ≡ 0x3a → ⊥) → None ≡ action_by l (five base c s)
 unfolding five nothing

@@ -18,7 +18,7 @@ use Rattle.tuples.specs.Operation.{Operation, operation, before, and_more, opera
 use Rattle.update_parts.specs.Part.{natural_by}
 use Rattle.update_operations.specs.Listing.{front_by, front}
 use Rattle.update_parts.proofs.Leaving.{Leaves, none as noBytes, rest-is, leaving_count}
-use Rattle.update_operations.proofs.Answers.{on_natural}
+use Rattle.update_operations.proofs.Answers.{on_part}
 
 -- ---- operations one after the other
 
@@ -52,11 +52,11 @@ module _ (base : ℕ) (l : Bytes) where
   long-refused h = rw (lt-leb (length l) max_list h, and-false (leb base 1))
 
   -- by the count that was read
-  pub fronted : base ≤ 1 → length l ≤ max_list → on_natural (λ n e. pick (leb n max_operations) (Some (n, e)) None) None (natural_by l (count l)) ≡ front base l
+  pub fronted : base ≤ 1 → length l ≤ max_list → on_part (λ n e. pick (leb n max_operations) (Some (n, e)) None) (natural_by l (count l)) ≡ front base l
   unfolding front
   fronted k j = rw (le-leb base 1 k, le-leb (length l) max_list j) (go (count l))
     where
-      go : (g : Got ℕ) → on_natural (λ n e. pick (leb n max_operations) (Some (n, e)) None) None (natural_by l g) ≡ front_by l g
+      go : (g : Got ℕ) → on_part (λ n e. pick (leb n max_operations) (Some (n, e)) None) (natural_by l g) ≡ front_by l g
       go fails = refl
       go (gets n s) = refl
 
@@ -90,7 +90,7 @@ module _ (base : ℕ) (l : Bytes) where
       allowed true e i = let p = ands _ _ e in counted (leb-true base 1 p.0) (leb-true (length l) max_list p.1) (count l) (leaving_count.leaves l) i
       allowed false e i = i
 
-  module _ {r : (Option (ℕ × ℕ))} (h : r ≡ front base l) where
+  module _ {r : Option (ℕ × ℕ)} (h : r ≡ front base l) where
     pub good : {n e : ℕ} → r ≡ Some (n, e) → Judged base l n e
     good q = subst (Says base l) (sym h ∙ q) says
 

@@ -1,5 +1,6 @@
 -- How an operation begins, what follows, and the way back from an operation that was decoded. Assumes nothing.
 use Rattle.std.specs.Prelude.{Some, None, Option}
+use Rattle.std.proofs.lemmas.Option.{same_Some}
 use mathlib.Core.Path.{◌≡◌, refl, sym, ap, ◌∙◌}
 use Prim.Native.Nat.{ℕ, ◌-◌, ◌≤◌}
 use native.Mathlib.Omega.{arith}
@@ -12,9 +13,10 @@ use Rattle.tuples.specs.Operation.{Operation, action_of, operation}
 use Rattle.update_parts.specs.Part.{signed_by, natural_by}
 use Rattle.update_numbers.specs.FieldNumber.{field_by, Field}
 use Rattle.update_operations.specs.Found.{placed, action_by, action_in, Opening, opening, opened_by, decoded_by}
+use Rattle.update_operations.specs.declared.Opened.{Opened}
 use Rattle.update_operations.specs.declared.Action.{Action}
 use Rattle.update_parts.proofs.Leaving.{Leaves, Leaving, none, rest-after, leaves_at, leaving_then, leaving_made, leaving_integer, leaving_count, leaving_mark}
-use Rattle.update_operations.proofs.Answers.{on_signed, on_natural, made-is, then_is}
+use Rattle.update_operations.proofs.Answers.{on_part, made-is, then_is}
 use Rattle.update_operations.proofs.Actions.{bytes_of, action-back, leaving_action}
 
 -- ---- how an operation begins
@@ -22,17 +24,17 @@ use Rattle.update_operations.proofs.Actions.{bytes_of, action-back, leaving_acti
 abbrev opens : ℕ → ℕ → Int → Opening
 opens n c z = record { count = n; mark = c; number = z }
 
-abbrev is_opened : Opening → ℕ → Option (ℕ × ℕ × Int × ℕ)
-is_opened o e = Some (o.count, o.mark, o.number, e)
+abbrev is_opened : Opening → ℕ → Opened
+is_opened o e = record { count = o.count; mark = o.mark; number = o.number; after = e }
 
 pub opening-is : (l : Bytes) (at : ℕ)
-    → on_natural (λ n e. on_natural (λ c j. on_signed ((λ a b. Some (n, c, a, b))) None (signed_by l (any_integer (drop j l)))) None (natural_by l (mark (drop e l)))) None (natural_by l (count (drop at l)))
+    → on_part (λ n e. on_part (λ c j. on_part (λ z k. Some (is_opened (opens n c z) k)) (signed_by l (any_integer (drop j l)))) (natural_by l (mark (drop e l)))) (natural_by l (count (drop at l)))
     ≡ opened_by l (opening (drop at l))
 unfolding opening
 opening-is l at =
-    then_is Some (None, is_opened) None (on_natural _ None) l refl leaving_count _
-    (λ n. then_is Some (None, is_opened) None (on_natural _ None) l refl leaving_mark _
-    (λ c j. made-is Some (None, is_opened) None (on_signed ((λ a b. Some (n, c, a, b))) None) l refl (opens n c) (λ _ _. refl) any_integer (drop j l))) at
+    then_is (λ n e. (n, e)) is_opened (on_part _) l refl leaving_count _
+    (λ n. then_is (λ c e. (c, e)) is_opened (on_part _) l refl leaving_mark _
+    (λ c j. made-is (λ z e. (z, e)) is_opened (on_part (λ z k. Some (is_opened (opens n c z) k))) l refl (opens n c) (λ _ _. refl) any_integer (drop j l))) at
 
 leaving_opening : Leaving none opening
 unfolding opening
@@ -62,22 +64,19 @@ operation_opened base s = first (count s)
     first fails = refl
     first (gets n t) = second n (mark t)
 
-abbrev pub on_opened : {X : Type 0} → (ℕ → ℕ → Int → ℕ → X) → X → Option (ℕ × ℕ × Int × ℕ) → X
-on_opened K b (Some (n, c, z, e)) = K n c z e
-on_opened K b None = b
+abbrev pub on_opened : {X : Type 0} → (Opened → Option X) → Option Opened → Option X
+on_opened K (Some o) = K o
+on_opened K None = None
 
-abbrev pub on_found : (Action → ℕ → (Option (Field × Action × ℕ))) → Option (Action × ℕ) → Option (Field × Action × ℕ)
-on_found K (Some (x, e)) = K x e
-on_found K None = None
-
-abbrev is_decoded : Operation → ℕ → Option (Field × Action × ℕ)
-is_decoded o e = Some (field_by o.number, placed o.action e, e)
+abbrev is_decoded : Operation → ℕ → Field × Action × ℕ
+is_decoded o e = (field_by o.number, placed o.action e, e)
 
 pub operation_decoded : (base : ℕ) (l : Bytes) (at : ℕ)
-    → on_opened (λ n c z e. on_found ((λ a b. Some ((field_by (less base z)), a, b))) (action_by l (action_of base n c (drop e l)))) None (opened_by l (opening (drop at l))) ≡ decoded_by l (operation base (drop at l))
+    → on_opened (λ o. on_part (λ a e. Some (field_by (less base o.number), a, e)) (action_by l (action_of base o.count o.mark (drop o.after l)))) (opened_by l (opening (drop at l)))
+    ≡ decoded_by l (operation base (drop at l))
 operation_decoded base l at =
-    then_is is_opened None is_decoded None (on_opened _ None) l refl leaving_opening (acted base)
-    (λ o e. made-is (λ a e. Some (placed a e, e)) None is_decoded None (on_found ((λ a b. Some ((field_by (less base o.number)), a, b)))) l refl
+    then_is is_opened is_decoded (on_opened _) l refl leaving_opening (acted base)
+    (λ o e. made-is (λ a e. (placed a e, e)) is_decoded (on_part (λ a e. Some (field_by (less base o.number), a, e))) l refl
     (λ a. record { number = less base o.number; action = a }) (λ _ _. refl) (action_of base o.count o.mark) (drop e l)) at
     ∙ ap (decoded_by l) (operation_opened base (drop at l))
 
@@ -100,7 +99,7 @@ pub record IsOperation (base : ℕ) (l : Bytes) (at : ℕ) (fd : Field) (x : Act
   pub end : e ≤ length l
   pub within : length (bytes_of o.action) ≤ e
 
-module _ (base : ℕ) (l : Bytes) (at : ℕ) {r : (Option (Field × Action × ℕ))} (h : r ≡ decoded_by l (operation base (drop at l))) where
+module _ (base : ℕ) (l : Bytes) (at : ℕ) {r : Option (Field × Action × ℕ)} (h : r ≡ decoded_by l (operation base (drop at l))) where
   pub operation_bad : r ≡ None → operation base (drop at l) ≡ fails
   operation_bad q = go (operation base (drop at l)) (sym q ∙ h)
     where
@@ -115,7 +114,8 @@ module _ (base : ℕ) (l : Bytes) (at : ℕ) {r : (Option (Field × Action × �
       go : (g : Got Operation) → operation base (drop at l) ≡ g → Leaves operation_bytes l g → Some (fd, x, e) ≡ decoded_by l g → IsOperation base l at fd x e
       go fails j k i = impossible cc
       go (gets o s) j k i =
-          let b : x ≡ placed o.action (length l - length s) = cc in
-          let d : e ≡ length l - length s = cc in
+          let p = same_Some _ _ i in
+          let b : x ≡ placed o.action (length l - length s) = ap (λ t. t.1) p in
+          let d : e ≡ length l - length s = ap (λ t. t.2) p in
           let m = simp (length-append, length-append) at (ap length k.1) in
-          record { o = o; got = j ∙ ap (gets o) (sym (rw d (rest-after (operation_bytes o) s k))); field = cc; action = rw (b, d) (action-back l s o.action k); placed = cc; end = omega arith; within = omega arith }
+          record { o = o; got = j ∙ ap (gets o) (sym (rw d (rest-after (operation_bytes o) s k))); field = ap (λ t. t.0) p; action = rw (b, d) (action-back l s o.action k); placed = b ∙ ap (placed o.action) (sym d); end = omega arith; within = omega arith }

@@ -7,7 +7,8 @@ use Rattle.tuples.specs.Decoding.{Got, Decoder, then, made, any_integer, count, 
 use Rattle.tuples.specs.Operation.{plus, minus, and, xor, or, assign, insert, remove, splice, Operation}
 use Rattle.tuples.specs.Operation as Law
 use Rattle.update_parts.specs.Part.{part, found}
-use Rattle.update_numbers.specs.FieldNumber.{field_by}
+use Rattle.update_numbers.specs.FieldNumber.{field_by, Field}
+use Rattle.update_operations.specs.declared.Opened.{Opened}
 use Rattle.update_operations.specs.declared.Bitwise.{Bitwise}
 use Rattle.update_operations.specs.declared.Bitwise.TheVariants.{And, Xor, Or}
 use Rattle.update_operations.specs.declared.Change.{Change}
@@ -30,7 +31,7 @@ placed (remove m) e = Remove m
 placed (splice p k b) e = Alter (Splice p k (e - length b))
 
 abbrev pub action_by : Bytes → Got Law.Action → Option (Action × ℕ)
-action_by = found (λ a e. Some (placed a e, e)) None
+action_by = found (λ a e. (placed a e, e))
 
 -- by a mark and its argument, an integer
 abbrev pub natural_mark : ℕ → ℕ → ℕ → Option (Action × ℕ)
@@ -64,7 +65,7 @@ action_in l (Assign a) e = assign (part a e l)
 action_in l (Insert a) e = insert (part a e l)
 action_in l (Remove m) e = remove m
 
--- ---- how an operation begins: the count of its array, its mark, its field number
+-- ---- how an operation begins: the count of its array, its mark, its field number; in the code's record also the place after them
 
 pub record Opening : Type 0 where
   pub count : ℕ
@@ -74,10 +75,10 @@ pub record Opening : Type 0 where
 unfoldable pub opening : Decoder Opening
 opening = then count (λ n. then mark (λ c. made (λ z. record { count = n; mark = c; number = z }) any_integer))
 
-abbrev pub opened_by : Bytes → Got Opening → Option (ℕ × ℕ × Int × ℕ)
-opened_by = found (λ o e. Some (o.count, o.mark, o.number, e)) None
+abbrev pub opened_by : Bytes → Got Opening → Option Opened
+opened_by = found (λ o e. record { count = o.count; mark = o.mark; number = o.number; after = e })
 
 -- ---- an operation
 
 abbrev pub decoded_by : Bytes → Got Operation → Option (Field × Action × ℕ)
-decoded_by = found (λ o e. Some (field_by o.number, placed o.action e, e)) None
+decoded_by = found (λ o e. (field_by o.number, placed o.action e, e))

@@ -1,5 +1,7 @@
 -- What an operation is read from: each answer of the code is what the definition gets. Assumes nothing.
 use Rattle.std.specs.Prelude.{Some, None, Ok, Err, Option}
+use Rattle.std.specs.Result.{result_ok}
+use Rattle.std.proofs.lemmas.Option.{some_pair_parts}
 use mathlib.Core.Path.{◌≡◌, refl, sym, ap, ◌∙◌}
 use mathlib.Core.Logic.{⊎_elim}
 use mathlib.Core.List.{[], ◌∷◌}
@@ -18,7 +20,7 @@ use Rattle.msgpack_values.proofs.Local.{value_good, value_pos}
 use Rattle.msgpack_scalars.specs.Start.{scalar_of, string_by, array_by, Start}
 use Rattle.msgpack_scalars.specs.Integer.{due_in, due, unsigned_by, unsigned, signed_by, signed, adding, integer, shift_integer, Due, Integer}
 use Rattle.msgpack_scalars.specs.Header.{counted, header, shift_header, Header}
-use Rattle.msgpack_first_bytes.proofs.Logic.{by_leb, either}
+use Rattle.msgpack_first_bytes.proofs.Logic.{impossible, by_leb, either}
 use Rattle.tuples.specs.Decoding.{value_from, any_value, integer_from, any_integer, string_from, string, count_from, count, mark}
 use Rattle.update_parts.specs.Part.{part, signed_by as signedPart, natural_by, span_by}
 use Rattle.msgpack_scalars.specs.declared.NoNumber.TheVariants.{Cut, Other}
@@ -59,31 +61,26 @@ integer-fits s = go (due Unsigned s) (due-fits Unsigned s) (due Signed s) (due-f
     go (Err Other) h (Err Cut) k = tt
     go (Err Other) h (Err Other) k = tt
 
-abbrev pub signed_of : Integer → Option (Int × ℕ)
-signed_of (Ok (z, e)) = Some (z, e)
-signed_of (Err Cut) = None
-signed_of (Err Other) = None
-
-pub integer-at : (l : Bytes) (at : ℕ) (r : Integer) → r ≡ shift_integer at (integer (drop at l)) → signed_of r ≡ signedPart l (any_integer (drop at l))
+pub integer-at : (l : Bytes) (at : ℕ) {r : Integer} → r ≡ shift_integer at (integer (drop at l)) → result_ok r ≡ signedPart l (any_integer (drop at l))
 unfolding any_integer integer_from
-integer-at l at r e = rw e (go (integer (drop at l)) (integer-fits (drop at l)))
+integer-at l at e = rw e (go (integer (drop at l)) (integer-fits (drop at l)))
   where
-    go : (x : Integer) → IntegerFits (length (drop at l)) x → signed_of (shift_integer at x) ≡ signedPart l (integer_from x (drop at l))
+    go : (x : Integer) → IntegerFits (length (drop at l)) x → result_ok (shift_integer at x) ≡ signedPart l (integer_from x (drop at l))
     go (Ok (z, k)) h = ap (λ a. Some (z, a)) (ends l at k h.0 h.1)
     go (Err Cut) h = refl
     go (Err Other) h = refl
 
 -- ---- a value
 
-abbrev pub span_of : ℕ → Read → Option (ℕ × ℕ)
-span_of at (Ok e) = Some (at, e)
-span_of at (Err p) = None
+abbrev pub span_of : ℕ → Option ℕ → Option (ℕ × ℕ)
+span_of at (Some e) = Some (at, e)
+span_of at None = None
 
-pub value-at : (l : Bytes) (at : ℕ) (r : Read) → r ≡ shift at (value 12 (drop at l)) → span_of at r ≡ span_by l (any_value (drop at l))
+pub value-at : (l : Bytes) (at : ℕ) {r : Read} {o : Option ℕ} → r ≡ shift at (value 12 (drop at l)) → o ≡ result_ok r → span_of at o ≡ span_by l (any_value (drop at l))
 unfolding any_value value_from
-value-at l at r e = rw e (go (value 12 (drop at l)) refl)
+value-at l at e f = rw (f, e) (go (value 12 (drop at l)) refl)
   where
-    go : (x : Read) → value 12 (drop at l) ≡ x → span_of at (shift at x) ≡ span_by l (value_from x (drop at l))
+    go : (x : Read) → value 12 (drop at l) ≡ x → span_of at (result_ok (shift at x)) ≡ span_by l (value_from x (drop at l))
     go (Ok k) q =
         let g : k ≤ length (drop at l) = (value_good 12 (drop at l) k q).0 in
         let i = ends l at k (value_pos 12 (drop at l) k q) g in
@@ -107,15 +104,11 @@ header-fits by (b ∷ s) = go (by (form_of b))
     go (Some (w, f)) = by_leb (HeaderFits (suc (length s))) w (length s) (λ h. (omega arith, omega arith)) (λ _. tt)
     go None = tt
 
-abbrev pub count_of : Header → Option (ℕ × ℕ)
-count_of (Some (n, e)) = Some (n, e)
-count_of None = None
-
-pub count_at : (l : Bytes) (at : ℕ) (r : Header) → r ≡ shift_header at (header array_by (drop at l)) → count_of r ≡ natural_by l (count (drop at l))
+pub count_at : (l : Bytes) (at : ℕ) {r : Header} → r ≡ shift_header at (header array_by (drop at l)) → r ≡ natural_by l (count (drop at l))
 unfolding count count_from
-count_at l at r e = rw e (go (header array_by (drop at l)) (header-fits array_by (drop at l)))
+count_at l at e = rw e (go (header array_by (drop at l)) (header-fits array_by (drop at l)))
   where
-    go : (x : Header) → HeaderFits (length (drop at l)) x → count_of (shift_header at x) ≡ natural_by l (count_from x (drop at l))
+    go : (x : Header) → HeaderFits (length (drop at l)) x → shift_header at x ≡ natural_by l (count_from x (drop at l))
     go (Some (n, k)) h = ap (λ a. Some (n, a)) (ends l at k h.0 h.1)
     go None h = refl
 
@@ -128,11 +121,11 @@ string_of l None = None
 module _ (l : Bytes) (at : ℕ) {r : Header} (q : r ≡ shift_header at (header string_by (drop at l))) where
   -- its header lies within the bytes
   pub string-start : {n e : ℕ} → r ≡ Some (n, e) → e ≤ length l
-  string-start {n} {e} i = go (header string_by (drop at l)) (header-fits string_by (drop at l)) q
+  string-start {n} {e} i = go (header string_by (drop at l)) (header-fits string_by (drop at l)) (sym i ∙ q)
     where
-      go : (x : Header) → HeaderFits (length (drop at l)) x → r ≡ shift_header at x → e ≤ length l
-      go (Some (m, k)) f h = let j : e ≡ at + k = cc in let o = simp length-drop at f.1 in omega (arith, f.0)
-      go None f h = absurd (let z : ◌≡◌ {A = ℕ} 0 1 = cc in omega arith)
+      go : (x : Header) → HeaderFits (length (drop at l)) x → Some (n, e) ≡ shift_header at x → e ≤ length l
+      go (Some (m, k)) f h = let o = simp length-drop at f.1 in omega (arith, f.0, (some_pair_parts _ _ _ _ h).1)
+      go None f h = impossible cc
 
   pub string-at : string_of l r ≡ span_by l (string (drop at l))
   unfolding string string_from
@@ -155,27 +148,35 @@ module _ (l : Bytes) (at : ℕ) {r : Header} (q : r ≡ shift_header at (header 
           (either n (length l - (at + k)))
       go None f = refl
 
--- ---- a mark
+-- ---- a mark, by the bytes r from its place on
 
-pub mark-cut : (l : Bytes) (at : ℕ) → length l < at + 2 → None ≡ natural_by l (mark (drop at l))
-unfolding mark
-mark-cut l at h = go (drop at l) (rw length-drop (omega arith))
-  where
-    go : (s : Bytes) → length s < 2 → None ≡ natural_by l (mark s)
-    go [] h = refl
-    go (a ∷ []) h = refl
-    go (a ∷ c ∷ s) h = absurd (omega arith)
+module _ (l : Bytes) (at : ℕ) {r : Bytes} (q : r ≡ drop at l) where
+  pub mark-cut : length r < 2 → None ≡ natural_by l (mark (drop at l))
+  unfolding mark
+  mark-cut h = rw (← q) (go r h)
+    where
+      go : (s : Bytes) → length s < 2 → None ≡ natural_by l (mark s)
+      go [] h = refl
+      go (a ∷ []) h = refl
+      go (a ∷ c ∷ s) h = absurd (omega arith)
 
-pub mark_other : (l : Bytes) (at : ℕ) → at + 2 ≤ length l → (get_or l at 0 ≡ 0xa1 → ⊥) → None ≡ natural_by l (mark (drop at l))
-unfolding mark
-mark_other l at h k = rw (drop-cons l at 0 (omega arith), drop-cons l (suc at) 0 (omega arith), ne_eqb (get_or l at 0) 0xa1 k)
+  pub mark_other : (get_or r 0 0 ≡ 0xa1 → ⊥) → None ≡ natural_by l (mark (drop at l))
+  unfolding mark
+  mark_other h = rw (← q) (go r h)
+    where
+      go : (s : Bytes) → (get_or s 0 0 ≡ 0xa1 → ⊥) → None ≡ natural_by l (mark s)
+      go [] h = refl
+      go (a ∷ []) h = refl
+      go (a ∷ c ∷ s) h = rw (ne_eqb a 0xa1 h)
 
-pub mark-is : (l : Bytes) (at : ℕ) → at + 2 ≤ length l → get_or l at 0 ≡ 0xa1 → Some (get_or l (at + 1) 0, at + 2) ≡ natural_by l (mark (drop at l))
-unfolding mark
-mark-is l at h k =
-    let i : at + 1 ≡ suc at = omega arith in
-    let j : at + 2 ≡ length l - length (drop (suc (suc at)) l) = rw length-drop (omega arith) in
-    rw (i, drop-cons l at 0 (omega arith), drop-cons l (suc at) 0 (omega arith), eq-eqb (get_or l at 0) 0xa1 k) (ap ((λ a. Some ((get_or l (suc at) 0), a))) j)
+  pub mark-is : 2 ≤ length r → get_or r 0 0 ≡ 0xa1 → Some (get_or r 1 0, at + 2) ≡ natural_by l (mark (drop at l))
+  unfolding mark
+  mark-is h k = rw (← q) (go r h k (ap length q ∙ length-drop at l))
+    where
+      go : (s : Bytes) → 2 ≤ length s → get_or s 0 0 ≡ 0xa1 → length s ≡ length l - at → Some (get_or s 1 0, at + 2) ≡ natural_by l (mark s)
+      go [] h k d = absurd (omega arith)
+      go (a ∷ []) h k d = absurd (omega arith)
+      go (a ∷ c ∷ s) h k d = rw (eq-eqb a 0xa1 k) (ap (λ e. Some (c, e)) (omega arith))
 
 -- ---- bytes from a place up to another, held to the end
 

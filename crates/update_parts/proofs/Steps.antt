@@ -19,8 +19,8 @@ module _ {A B : Type 0} (first : Decoder A) (next : A → Decoder B) {s : Bytes}
 
 -- ---- a part that was found, and then what follows it
 
-module _ {B : Type 0} (l s : Bytes) (d : Decoder ℕ) (k : Leaves none l (d s)) (next : ℕ → Decoder B) {r : (Option (ℕ × ℕ))} (h : r ≡ natural_by l (d s)) where
-  told : {x : (Option (ℕ × ℕ))} → r ≡ x → natural_in l x ≡ d s
+module _ {B : Type 0} (l s : Bytes) (d : Decoder ℕ) (k : Leaves none l (d s)) (next : ℕ → Decoder B) {r : Option (ℕ × ℕ)} (h : r ≡ natural_by l (d s)) where
+  told : {x : Option (ℕ × ℕ)} → r ≡ x → natural_in l x ≡ d s
   told q = ap (natural_in l) (sym q ∙ h) ∙ natural-back l (d s) k
 
   pub after-natural : {n e : ℕ} → r ≡ Some (n, e) → next n (drop e l) ≡ then d next s

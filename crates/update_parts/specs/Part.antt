@@ -11,16 +11,20 @@ part a e l = take (e - a) (drop a l)
 -- ---- what was got from the bytes l
 
 -- with the place after it, where the bytes that are left begin
-abbrev pub found : {A R : Type 0} → (A → ℕ → R) → R → Bytes → Got A → R
-found is bad l fails = bad
-found is bad l (gets a s) = is a (length l - length s)
+abbrev pub found : {A R : Type 0} → (A → ℕ → R) → Bytes → Got A → Option R
+found is l fails = None
+found is l (gets a s) = Some (is a (length l - length s))
+
+-- as it is
+abbrev pub found_here : {A : Type 0} → Bytes → Got A → Option (A × ℕ)
+found_here = found (λ a e. (a, e))
 
 abbrev pub signed_by : Bytes → Got Int → Option (Int × ℕ)
-signed_by = found (λ a. Some (None, a))
+signed_by = found_here
 
 abbrev pub natural_by : Bytes → Got ℕ → Option (ℕ × ℕ)
-natural_by = found (λ a. Some (None, a))
+natural_by = found_here
 
 -- bytes begin as far before that place as they are long
 abbrev pub span_by : Bytes → Got Bytes → Option (ℕ × ℕ)
-span_by = found (λ b e. Some (e - length b, e)) None
+span_by = found (λ b e. (e - length b, e))

@@ -1,13 +1,16 @@
 -- What is moved and written makes the edit; the table keeps its length; where the entries begin. Assumes nothing.
-use mathlib.Core.Path.{◌≡◌, refl, ◌∙◌}
+use mathlib.Core.Path.{◌≡◌, refl, ap, ◌∙◌}
 use mathlib.Core.Bool.{Bool, true, false, ◌&&◌}
 use mathlib.Core.List.{List, ◌∷◌, ◌++◌, append_assoc}
 use Prim.Native.Nat.{ℕ, suc, ◌+◌, ◌-◌, ◌<◌, ◌≤◌}
 use native.Mathlib.Omega.{arith}
+use native.Mathlib.Numerals.{add-one}
 use borrow.Author.Tests.{le-leb, lt-ltb, le-ltb, leb-true, ltb-true}
 use lib.Dec.{leb, ltb}
 use lib.ListN.{length, take, drop, set, get_or, length-drop}
-use lib.Seq.{paste, drop-cons, length_paste_head, set_at}
+use lib.Seq.{paste, drop-cons, length_paste_head, length-take-le, set_at, take-take, drop-drop}
+use borrow.Rule.Slice.PartMut.{put_mid}
+use Rattle.core.specs.List.{copy_within}
 use Rattle.update_table.specs.Table.{opens, added, head_added, closes, removed, head_removed}
 
 impossible : {A : Type 0} → ◌≡◌ {A = Bool} false true → A
@@ -73,22 +76,28 @@ module _ (head n f p : ℕ) (d : List ℕ) where
     added-above h = simp (is_open o, le-ltb _ _ h) (refl, refl)
 
     -- as the code makes them
-    pub put-below : f < n - f → (b : List ℕ) → b ≡ paste d (head - 1) (drop head d) f → Added (set b (head + f - 1) p) (head - 1)
-    put-below h b q =
+    pub put-below : f < n - f → Added (set (copy_within d head (head + f) (head - 1)) (head + f - 1) p) (head - 1)
+    put-below h =
+        let k : head + f - head ≡ f = omega arith in
         let m : f ≤ length (drop head d) = simp length-drop (omega arith) in
         let front = take (head - 1) d ++ take f (drop head d) in
         let l : length front ≡ head - 1 + f = length_paste_head d (head - 1) (drop head d) f (omega arith) m in
         let i : head + f - 1 ≡ head - 1 + f = omega arith in
         let j : suc (head - 1 + f) ≡ head + f = omega arith in
-        let e : set b (head + f - 1) p ≡ take (head - 1) d ++ (take f (drop head d) ++ (p ∷ drop (head + f) d))
-        = rw (q, i, drop-cons d (head - 1 + f) 0 (omega arith), j) (set_at front (get_or d (head - 1 + f) 0) (drop (head + f) d) p (head - 1 + f) l ∙ append_assoc (take (head - 1) d) (take f (drop head d)) (p ∷ drop (head + f) d)) in
+        let e : set (copy_within d head (head + f) (head - 1)) (head + f - 1) p ≡ take (head - 1) d ++ (take f (drop head d) ++ (p ∷ drop (head + f) d))
+        = rw (k, i, drop-cons d (head - 1 + f) 0 (omega arith), j) (set_at front (get_or d (head - 1 + f) 0) (drop (head + f) d) p (head - 1 + f) l ∙ append_assoc (take (head - 1) d) (take f (drop head d)) (p ∷ drop (head + f) d)) in
         ((added-below h).0, e ∙ (added-below h).1)
 
-    pub put-above : n - f ≤ f → (b : List ℕ) → b ≡ paste d (head + f) (p ∷ drop (head + f) d) (n - f + 1) → Added b head
+    pub put-above : n - f ≤ f → (b : List ℕ)
+        → let s = take (head + n + 1 - (head + f)) (drop (head + f) d) in b ≡ take (length s) (p ∷ s)
+        → Added (put_mid (head + f) (head + n + 1 - (head + f)) d b) head
     put-above h b q =
-        let k : n - f + 1 ≡ suc (n - f) = omega arith in
+        let k : head + n + 1 - (head + f) ≡ suc (n - f) = omega arith in
         let j : head + f + suc (n - f) ≡ suc (head + n) = omega arith in
-        ((added-above h).0, q ∙ (rw (k, j) (simp append_assoc)) ∙ (added-above h).1)
+        let D = drop (head + f) d in
+        let l : length (take (suc (n - f)) D) ≡ suc (n - f) = length-take-le (suc (n - f)) D (simp length-drop (omega arith)) in
+        let e : b ≡ p ∷ take (n - f) D = (rw (k, l) at q) ∙ ap (λ (x : List ℕ). p ∷ x) (take-take (n - f) (suc (n - f)) D (omega arith)) in
+        ((added-above h).0, rw (k, e, drop-drop, j) ((added-above h).1))
 
 -- ---- m entries less
 
@@ -118,10 +127,11 @@ module _ (head n f m : ℕ) (d : List ℕ) where
     unfolding head_removed removed
     removed-above h = simp (is_closed o, le-ltb _ _ h) (refl, refl)
 
-    pub cut_below : f < n - f - m → (b : List ℕ) → b ≡ paste d (head + m) (drop head d) f → Removed b (head + m)
-    cut_below h b q =
+    pub cut_below : f < n - f - m → Removed (copy_within d head (head + f) (head + m)) (head + m)
+    cut_below h =
         let r = removed-below (omega arith) in
-        (r.0, q ∙ append_assoc (take (head + m) d) (take f (drop head d)) (drop (head + m + f) d) ∙ r.1)
+        let k : head + f - head ≡ f = omega arith in
+        (r.0, rw (k, append_assoc) r.1)
 
     pub cut-above : n - f - m ≤ f → (b : List ℕ) → b ≡ paste d (head + f) (drop (head + f + m) d) (n - f - m) → Removed b head
     cut-above h b q =

@@ -16,18 +16,3 @@ pub bounds-s-0 : goal.bounds-s-0
 unfolding meaning
 bounds-s-0 c = let k = whole-within 16 _ _ c.requires in omega arith
 
-pub returns-in-Unused : goal.returns-in-Unused
-unfolding meaning
-returns-in-Unused c = rw (← c.form_of.ensures, c.in-Unused.is)
-
-pub returns-in-Scalar : goal.returns-in-Scalar
-unfolding meaning
-returns-in-Scalar c = rw (← c.form_of.ensures, c.in-Scalar.is) c.scalar_meaning.ensures
-
-pub returns-in-Array : goal.returns-in-Array
-unfolding meaning
-returns-in-Array c = rw (← c.form_of.ensures, c.in-Array.is)
-
-pub returns-in-Map : goal.returns-in-Map
-unfolding meaning
-returns-in-Map c = rw (← c.form_of.ensures, c.in-Map.is)

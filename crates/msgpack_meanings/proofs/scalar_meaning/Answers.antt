@@ -23,38 +23,6 @@ pub overflow_sub-result-in-Ext : goal.overflow_sub-result-in-Ext
 unfolding scalar_meaning
 overflow_sub-result-in-Ext c = let k = ext (goal.at.overflow_sub-result-in-Ext c).In-Ext in omega arith
 
-pub returns-in-Nil : goal.returns-in-Nil
-unfolding scalar_meaning
-returns-in-Nil c = rw c.in-Nil.is
-
-pub returns-in-Boolean : goal.returns-in-Boolean
-unfolding scalar_meaning
-returns-in-Boolean c = rw c.in-Boolean.is
-
-pub returns-in-Unsigned : goal.returns-in-Unsigned
-unfolding scalar_meaning
-returns-in-Unsigned c = rw c.in-Unsigned.is c.integer_meaning.ensures
-
-pub returns-in-Signed : goal.returns-in-Signed
-unfolding scalar_meaning
-returns-in-Signed c = rw c.in-Signed.is c.integer_meaning-in-Signed.ensures
-
-pub returns-in-Float32 : goal.returns-in-Float32
-unfolding scalar_meaning
-returns-in-Float32 c = rw c.in-Float32.is c.float32_meaning.ensures
-
-pub returns-in-Float64 : goal.returns-in-Float64
-unfolding scalar_meaning
-returns-in-Float64 c = rw c.in-Float64.is c.float64_meaning.ensures
-
-pub returns-in-String : goal.returns-in-String
-unfolding scalar_meaning
-returns-in-String c = rw c.in-String.is
-
-pub returns-in-Bin : goal.returns-in-Bin
-unfolding scalar_meaning
-returns-in-Bin c = rw c.in-Bin.is
-
 pub returns-in-Ext : goal.returns-in-Ext
 unfolding scalar_meaning
 returns-in-Ext c = let w = c.args.width in let e : 1 + w + 1 ≡ 2 + w = omega arith in rw (c.in-Ext.is, e)

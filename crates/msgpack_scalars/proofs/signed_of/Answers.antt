@@ -1,7 +1,7 @@
 -- Two's complement, by the sign bit.
 use native.Mathlib.Omega.{arith}
 use native.Mathlib.Nat.{add-zero}
-use Prim.Native.Nat.{◌-◌, ◌*◌, ◌^◌, ◌<◌, ◌+◌}
+use Prim.Native.Nat.{◌-◌, ◌*◌, ◌^◌, ◌<◌, ◌+◌, max}
 use mathlib.Core.Path.{◌≡◌, sym, ◌∙◌}
 use lib.Pow.{pow_pos}
 use lib.ListN.{drop}
@@ -13,16 +13,16 @@ use Rattle.msgpack_scalars.proofs.signed_of.Goals as goal
 
 -- the number, the sign bit, and the bounds of both
 known : (c : After-sign_bit-half) →
-    (let a = c.args in let n = c.in-Some.n in let h = c.sign_bit-half.result in
+    (let a = c.args in let n = c.natural_of-n.result in let h = c.sign_bit-half.result in
     (n ≡ natural_of a.more (drop a.at a.s.now)) × ((h ≡ 2 ^ (8 * a.more - 1)) × ((n < h + h) × (0 < h))))
 known c =
     let a = c.args in
-    let n = c.in-Some in
     let e = c.sign_bit-half.ensures in
-    let b = n.ensures.1 in
+    let m : max a.more 1 ≡ a.more = omega arith in
+    let b = rw m at c.natural_of-n.ensures.1 in
     let d = Laws.doubled a.more (omega arith) in
     let p = pow_pos (8 * a.more - 1) in
-    (Laws.natural-more a.s.now a.at a.more n.n (omega arith) n.ensures.0, (e, (omega arith, omega arith)))
+    (c.natural_of-n.ensures.0, (e, (omega arith, omega arith)))
 
 pub returns : goal.returns
 returns c =
@@ -31,14 +31,11 @@ returns c =
     Laws.signed_high (drop a.at a.s.now) a.more _ _ (omega arith) k.0 k.1.0 c.if-n-half.false (rw (Laws.doubled a.more (omega arith), ← k.1.0) k.1.1.0)
 
 pub overflow_sub-result : goal.overflow_sub-result
-overflow_sub-result c = omega (arith, c.type_inv.s c.args.at)
+overflow_sub-result c = let b = rw c.if-more-eq0.true at c.natural_of-n.ensures.1 in omega (arith, b)
 
 pub returns-then-more-eq0 : goal.returns-then-more-eq0
-returns-then-more-eq0 c = unfold signed_of in rw c.if-more-eq0.true (rw (get_or-drop, add-zero))
-
-pub returns-in_default : goal.returns-in_default
-returns-in_default c = let p = c in let a = p.args in
-    absurd (Laws.natural_there a.s.now a.at a.more (omega arith) (omega arith) (sym c.in_default.is ∙ p.number_at.ensures.0))
+unfolding signed_of natural_of
+returns-then-more-eq0 c = rw (c.natural_of-n.ensures.0, c.if-more-eq0.true)
 
 pub returns-then-n-half : goal.returns-then-n-half
 returns-then-n-half c = let k = known (goal.at.returns-then-n-half c).After-sign_bit-half in

@@ -1,42 +1,29 @@
--- The number that is due, cut, or of another kind.
+-- The number that is due, or why there is none.
 use native.Mathlib.Omega.{arith}
 use Prim.Native.Nat.{◌+◌, ◌≤◌}
 use mathlib.Core.Path.{sym, ◌∙◌}
 use lib.ListN.{length}
 use Rattle.msgpack_first_bytes.specs.FirstByte.{form_of, same_kind}
 use Rattle.msgpack_first_bytes.specs.declared.Kind.TheVariants.{Unsigned}
+use Rattle.msgpack_first_bytes.proofs.Logic.{error_left}
 use Rattle.msgpack_scalars.specs.Integer.{unsigned, unsigned_by}
 use Rattle.msgpack_scalars.proofs.Laws.{little, due_there}
-use Rattle.msgpack_scalars.proofs.unsigned_by_form.Goals.{In-Ok}
+use Rattle.msgpack_scalars.proofs.unsigned_by_form.Goals.{In_ok-more}
 use Rattle.msgpack_scalars.proofs.unsigned_by_form.Goals as goal
 
 -- what is due is there
-there : (c : In-Ok) → (let a = c.args in let f = c.in-Ok.more in (f ≤ 8) × (a.at + (1 + f) ≤ length a.s.now))
+there : (c : In_ok-more) → (let a = c.args in let f = c.in_ok-more.more in (f ≤ 8) × (a.at + (1 + f) ≤ length a.s.now))
 unfolding little form_of same_kind
 there c =
     let a = c.args in
-    due_there Unsigned tt a.s.now a.at _ (sym c.in-Ok.is ∙ c.due_at.ensures)
+    due_there Unsigned tt a.s.now a.at _ (sym c.in_ok-more.was ∙ c.due_at.ensures)
 
 pub natural_of-requires : goal.natural_of-requires
-unfolding unsigned unsigned_by
-natural_of-requires c = let k = there (goal.at.natural_of-requires c).In-Ok in omega arith
+natural_of-requires c = let k = there (goal.at.natural_of-requires c).In_ok-more in omega arith
 
 pub overflow_add-result : goal.overflow_add-result
-unfolding unsigned unsigned_by
-overflow_add-result c = let k = there (goal.at.overflow_add-result c).In-Ok in omega arith
+overflow_add-result c = let k = there (goal.at.overflow_add-result c).In_ok-more in omega arith
 
-pub overflow_add-result-in-Ok : goal.overflow_add-result-in-Ok
-unfolding unsigned unsigned_by
-overflow_add-result-in-Ok c = let k = there (goal.at.overflow_add-result-in-Ok c).In-Ok in omega arith
+pub overflow_add-result-2 : goal.overflow_add-result-2
+overflow_add-result-2 c = let k = there (goal.at.overflow_add-result-2 c).In_ok-more in omega arith
 
-pub returns-in-Ok : goal.returns-in-Ok
-unfolding unsigned unsigned_by
-returns-in-Ok c = rw (← c.due_at.ensures, c.in-Ok.is, c.natural_of.ensures)
-
-pub returns-in-Err-Cut : goal.returns-in-Err-Cut
-unfolding unsigned unsigned_by
-returns-in-Err-Cut c = rw (← c.due_at.ensures, c.in-Err-Cut.is)
-
-pub returns-in-Err-Other : goal.returns-in-Err-Other
-unfolding unsigned unsigned_by
-returns-in-Err-Other c = rw (← c.due_at.ensures, c.in-Err-Other.is)

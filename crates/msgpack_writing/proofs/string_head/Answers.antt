@@ -1,20 +1,13 @@
--- `string_head`: each return is the case of the definition that the tests on the way choose.
+-- `string_head`: each return is the case of the definition that the test chooses; a length of 32 bits needs no more than four bytes.
+use Rattle.std.proofs.Common.{◌^◌}
 use borrow.Author.Tests.{lt-ltb, le-ltb}
-use Rattle.msgpack_writing.specs.Forms.{big_endian, string_header}
+use Rattle.msgpack_writing.specs.Forms.{string_header}
 use Rattle.msgpack_writing.proofs.string_head.Goals as goal
 
 pub returns-then-n-lt32 : goal.returns-then-n-lt32
-unfolding big_endian string_header
-returns-then-n-lt32 c = simp (lt-ltb _ _ c.if-n-lt32.true)
+unfolding string_header
+returns-then-n-lt32 c = simp (lt-ltb _ _ c.if-n-lt32.true) c.short_head.ensures
 
-pub returns-then-n-lt256 : goal.returns-then-n-lt256
-unfolding big_endian string_header
-returns-then-n-lt256 c = simp (le-ltb _ _ c.if-n-lt32.false, lt-ltb _ _ c.if-n-lt256.true)
-
-pub returns-then-n-lt65536 : goal.returns-then-n-lt65536
-unfolding big_endian string_header
-returns-then-n-lt65536 c = let d = c.before in simp (le-ltb _ _ d.if-n-lt32.false, le-ltb _ _ d.if-n-lt256.false, lt-ltb _ _ c.if-n-lt65536.true)
-
-pub returns : goal.returns
-unfolding big_endian string_header
-returns c = let d = c.before in simp (le-ltb _ _ d.if-n-lt32.false, le-ltb _ _ d.if-n-lt256.false, le-ltb _ _ c.if-n-lt65536.false)
+pub returns-else-n-lt32 : goal.returns-else-n-lt32
+unfolding string_header
+returns-else-n-lt32 c = simp (le-ltb _ _ c.if-n-lt32.false) (simp (c.from-number.ensures, lt-ltb c.args.n (2 ^ 32) c.ranges.n.fits) at c.long_head.ensures)

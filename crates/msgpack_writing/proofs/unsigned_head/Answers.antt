@@ -1,26 +1,12 @@
--- `unsigned_head`: each return is the case of the definition that the tests on the way choose.
+-- `unsigned_head`: each return is the case of the definition that the test chooses.
 use borrow.Author.Tests.{lt-ltb, le-ltb}
-use Rattle.msgpack_writing.specs.Forms.{big_endian, unsigned_form}
+use Rattle.msgpack_writing.specs.Forms.{unsigned_form}
 use Rattle.msgpack_writing.proofs.unsigned_head.Goals as goal
 
 pub returns-then-n-lt128 : goal.returns-then-n-lt128
-unfolding big_endian unsigned_form
-returns-then-n-lt128 c = simp (lt-ltb _ _ c.if-n-lt128.true)
+unfolding unsigned_form
+returns-then-n-lt128 c = simp (lt-ltb _ _ c.if-n-lt128.true) c.short_head.ensures
 
-pub returns-then-n-lt256 : goal.returns-then-n-lt256
-unfolding big_endian unsigned_form
-returns-then-n-lt256 c = simp (le-ltb _ _ c.if-n-lt128.false, lt-ltb _ _ c.if-n-lt256.true)
-
-pub returns-then-n-lt65536 : goal.returns-then-n-lt65536
-unfolding big_endian unsigned_form
-returns-then-n-lt65536 c = let d = c.before in simp (le-ltb _ _ d.if-n-lt128.false, le-ltb _ _ d.if-n-lt256.false, lt-ltb _ _ c.if-n-lt65536.true)
-
-pub returns-then-n-lt4294967296 : goal.returns-then-n-lt4294967296
-unfolding big_endian unsigned_form
-returns-then-n-lt4294967296 c = let d = c.before.before in
-    simp (le-ltb _ _ d.if-n-lt128.false, le-ltb _ _ d.if-n-lt256.false, le-ltb _ _ c.if-n-lt65536.false, lt-ltb _ _ c.if-n-lt4294967296.true)
-
-pub returns : goal.returns
-unfolding big_endian unsigned_form
-returns c = let d = c.before.before in
-    simp (le-ltb _ _ d.if-n-lt128.false, le-ltb _ _ d.if-n-lt256.false, le-ltb _ _ c.if-n-lt65536.false, le-ltb _ _ c.if-n-lt4294967296.false)
+pub returns-else-n-lt128 : goal.returns-else-n-lt128
+unfolding unsigned_form
+returns-else-n-lt128 c = simp (le-ltb _ _ c.if-n-lt128.false) c.long_head.ensures

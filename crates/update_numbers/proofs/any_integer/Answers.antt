@@ -1,41 +1,24 @@
 -- What was read is what the definition gets; a number of one byte is told by its entry.
-use mathlib.Core.Path.{◌≡◌, sym, ◌∙◌}
+use mathlib.Core.Path.{sym, ap, ◌∙◌}
 use native.Mathlib.Omega.{arith}
-use Prim.Native.Nat.{ℕ}
-use lib.ListN.{drop}
-use Rattle.msgpack_first_bytes.specs.Bytes.{Bytes}
-use Rattle.msgpack_scalars.specs.Integer.{integer, shift_integer, Integer}
 use borrow.Author.Tests.{eqb-true}
-use Rattle.msgpack_first_bytes.specs.Entry.{positive_fixint}
+use Rattle.std.specs.Result.{result_ok}
+use Rattle.msgpack_first_bytes.specs.Entry.{entry_of, positive_fixint}
 use Rattle.msgpack_scalars.proofs.Short.{integer_past, integer-small}
-use Rattle.tuples.specs.Decoding.{any_integer}
-use Rattle.update_parts.specs.Part.{signed_by}
-use Rattle.update_parts.proofs.Reading.{signed_of, integer-at}
+use Rattle.update_parts.proofs.Reading.{integer-at}
 use Rattle.update_numbers.proofs.any_integer.Goals as goal
 
--- by the integer x that was read
-told : (l : Bytes) (at : ℕ) {r : Integer} → r ≡ shift_integer at (integer (drop at l)) → {x : Integer} → r ≡ x
-    → signed_of x ≡ signed_by l (any_integer (drop at l))
-told l at h q = integer-at l at _ (sym q ∙ h)
+pub returns-in_err-b : goal.returns-in_err-b
+returns-in_err-b c = let a = c.args in
+    c.from_residual.ensures ∙ integer-at a.s.now a.at (integer_past a.s.now a.at c.in_err-b.ensures.lookup.3)
 
 pub returns-then-is_positive_fixint : goal.returns-then-is_positive_fixint
 returns-then-is_positive_fixint c =
     let a = c.args in
-    integer-at a.s.now a.at _
-    (integer-small a.s.now a.at (omega (arith, c.if-s-at.false))
-    (eqb-true _ positive_fixint (sym c.is_positive_fixint.ensures ∙ c.if-is_positive_fixint.true)))
+    let b = c.in_ok-b.ensures.lookup in
+    let e = b.4 (omega arith) 0 in
+    rw (c.from.ensures, e) (integer-at a.s.now a.at
+    (integer-small a.s.now a.at b.3.0 (ap entry_of (sym e) ∙ eqb-true _ positive_fixint (sym c.is_positive_fixint.ensures ∙ c.if-is_positive_fixint.true))))
 
-pub returns-then-s-at : goal.returns-then-s-at
-returns-then-s-at c = let a = c.args in integer-at a.s.now a.at _ (integer_past a.s.now a.at c.if-s-at.true)
-
-pub overflow_cast-result : goal.overflow_cast-result
-overflow_cast-result c = omega (arith, c.type_inv.s c.args.at)
-
-pub returns-in-Some : goal.returns-in-Some
-returns-in-Some c = told c.args.s.now c.args.at c.integer_at.ensures c.in-Some.is
-
-pub returns-in-Err-Cut : goal.returns-in-Err-Cut
-returns-in-Err-Cut c = told c.args.s.now c.args.at c.integer_at.ensures c.in-Err-Cut.is
-
-pub returns-in-Err-Other : goal.returns-in-Err-Other
-returns-in-Err-Other c = told c.args.s.now c.args.at c.integer_at.ensures c.in-Err-Other.is
+pub returns : goal.returns
+returns c = c.ok.ensures.value ∙ integer-at c.args.s.now c.args.at c.integer_at.ensures
