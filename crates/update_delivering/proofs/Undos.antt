@@ -75,7 +75,7 @@ module _ (t l w out : Bytes) (at : ℕ) {es : List ℕ} (E : Entries es (length 
   written-ended {left = []} {cur} {to} g e = subst (λ (x : List ℕ). Wrote out at (joined (undo_in t l w x)) cur to) (sym g.is) g.wrote
   written-ended {left = x ∷ left} g e = absurd (omega arith)
 
-  module _ {left fewer : List ℕ} {e : ℕ} {cur : Bytes} {to : ℕ} (g : Written t l w es out at left cur to) (d : left ≡ fewer ++ e ∷ []) where
+  module _ {left : List ℕ} {cur : Bytes} {to : ℕ} (fewer : List ℕ) (e : ℕ) (g : Written t l w es out at left cur to) (d : left ≡ fewer ++ e ∷ []) where
     split : es ≡ fewer ++ e ∷ g.behind
     split = g.is ∙ ap (λ (x : List ℕ). x ++ g.behind) d ∙ append_assoc fewer (e ∷ []) g.behind
 

@@ -1,35 +1,21 @@
-use Rattle.std.proofs.Common.{rules, ◌≡◌, ◌++◌, ◌+◌, ◌^◌, ◌<◌, ◌≤◌, length, take, drop, Ok, Err, ℕ, ◌-◌, ◌*◌, ◌/◌, ◌%◌, Bool, true, false, nat_eq, nat_lt, List, [], ◌∷◌, slice_index_or, slice_set, bit_and, bit_or, Fits, w8, w32, w64, Bor, MutBor}
-use Rattle.msgpack_first_bytes.specs.Bytes.{pick}
-use Rattle.msgpack_values.specs.Pieces.{joined}
-use Rattle.msgpack_writing.specs.Forms.{array_header}
-use Rattle.msgpack_writing.specs.Put.{put, next}
-use Rattle.tuples.specs.Limits.{max_fields}
-use Rattle.tuples.specs.Call.{bytes}
-use Rattle.tuples.specs.Press.{pressing}
-use Rattle.tuples.specs.Tuple.{fields_of, plain}
-use Rattle.update_places.specs.Place.{fields_in}
-use Rattle.update_running.specs.Steps.{entry_mark}
-use Rattle.update_running.specs.Held.{entry_bytes, undo_in}
-use Rattle.update_delivering.specs.Gathering.{Gathers, Side, Sides, shown, Stands, in_limits, undo_outcome, Entries, Undoes, Delivers, DeliversBoth, Moves}
-use Rattle.update_running.specs.Carrying.{comes_to, takes_back, rest_of}
-use Rattle.update_delivering.specs.Delivering.{failed_of, TriesUpdate, TriesUndo, TriesPress}
-use Rattle.tuples.specs.declared.Refusal.TheVariants.{LongUndo}
-use Rattle.update_delivering.specs.declared.Failed.TheVariants.{Refused}
-use Rattle.update_delivering.specs.declared.Unwritten.TheVariants.{Refused as RefusedYet}
+use Rattle.msgpack_first_bytes.proofs.Logic.{error_left}
+use Rattle.update_delivering.proofs.Tries.{carried_stands, carried_undoes, press-fails, press-refuses, press-writes}
 use Rattle.update_delivering.proofs.press_with.Goals as goal
 
--- src/lib.rt:359:9
-pub returns-in_err-stage : goal.returns-in_err-stage
-returns-in_err-stage c = ?
-
--- src/lib.rt:360:8
 pub deliver_both-requires : goal.deliver_both-requires
-deliver_both-requires c = ?
+deliver_both-requires c = let K = c.in_ok-stage.ensures in (carried_stands K, carried_undoes K c.carry_out.auto.back)
 
--- src/lib.rt:360:8
+pub returns-in_err-stage : goal.returns-in_err-stage
+returns-in_err-stage c =
+    let a = c.args in
+    rw (error_left _ _ c.from_residual.ensures.1) (press-fails _ _ _ _ a.table.now a.work.now c.carry_out.auto.table c.carry_out.auto.work c.in_err-stage.field-0.0 c.in_err-stage.ensures a.out.now a.undo.now)
+
 pub returns-in_err-deliver_both : goal.returns-in_err-deliver_both
-returns-in_err-deliver_both c = ?
+returns-in_err-deliver_both c =
+    let a = c.args in
+    rw (error_left _ _ c.from_residual-in_err-deliver_both.ensures.1) (press-refuses c.in_ok-stage.ensures a.work.now a.out.now _ a.table.now c.carry_out.auto.back a.undo.now _ (rw c.in_err-deliver_both.was at c.deliver_both.ensures))
 
--- src/lib.rt:342:1
 pub returns : goal.returns
-returns c = ?
+returns c =
+    let a = c.args in
+    press-writes c.in_ok-stage.ensures a.work.now a.out.now _ a.table.now c.carry_out.auto.back a.undo.now _ _ (rw c.in_ok-deliver_both.was at c.deliver_both.ensures)

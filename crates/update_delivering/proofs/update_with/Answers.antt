@@ -1,43 +1,34 @@
-use Rattle.std.proofs.Common.{rules, ◌≡◌, ◌++◌, ◌+◌, ◌^◌, ◌<◌, ◌≤◌, length, take, drop, Ok, Err, ℕ, ◌-◌, ◌*◌, ◌/◌, ◌%◌, Bool, true, false, nat_eq, nat_lt, List, [], ◌∷◌, slice_index_or, slice_set, bit_and, bit_or, Fits, w8, w32, w64, Bor, MutBor}
-use Rattle.msgpack_first_bytes.specs.Bytes.{pick}
-use Rattle.msgpack_values.specs.Pieces.{joined}
-use Rattle.msgpack_writing.specs.Forms.{array_header}
-use Rattle.msgpack_writing.specs.Put.{put, next}
-use Rattle.tuples.specs.Limits.{max_fields}
-use Rattle.tuples.specs.Call.{bytes}
-use Rattle.tuples.specs.Press.{pressing}
-use Rattle.tuples.specs.Tuple.{fields_of, plain}
-use Rattle.update_places.specs.Place.{fields_in}
-use Rattle.update_running.specs.Steps.{entry_mark}
-use Rattle.update_running.specs.Held.{entry_bytes, undo_in}
-use Rattle.update_delivering.specs.Gathering.{Gathers, Side, Sides, shown, Stands, in_limits, undo_outcome, Entries, Undoes, Delivers, DeliversBoth, Moves}
-use Rattle.update_running.specs.Carrying.{comes_to, takes_back, rest_of}
-use Rattle.update_delivering.specs.Delivering.{failed_of, TriesUpdate, TriesUndo, TriesPress}
-use Rattle.tuples.specs.declared.Refusal.TheVariants.{LongUndo}
-use Rattle.update_delivering.specs.declared.Failed.TheVariants.{Refused}
-use Rattle.update_delivering.specs.declared.Unwritten.TheVariants.{Refused as RefusedYet}
+use mathlib.Core.Path.{refl}
+use mathlib.Core.Logic.{inl}
+use Rattle.msgpack_first_bytes.proofs.Logic.{error_left}
+use Rattle.update_delivering.proofs.Tries.{lacks, update-refused, stalled_stands, tries_moved, carried_stands, update-refuses, update-writes}
 use Rattle.update_delivering.proofs.update_with.Goals as goal
 
--- src/lib.rt:315:13
 pub rebase-requires : goal.rebase-requires
-rebase-requires c = ?
+rebase-requires c = stalled_stands c.in-Err-Full.ensures
 
--- src/lib.rt:317:25
 pub deliver-requires : goal.deliver-requires
-deliver-requires c = ?
+deliver-requires c = carried_stands c.in-Ok.ensures
 
--- src/lib.rt:317:25
-pub returns-in_err-deliver-in-Ok : goal.returns-in_err-deliver-in-Ok
-returns-in_err-deliver-in-Ok c = ?
+pub returns-in-Err-NoRoom : goal.returns-in-Err-NoRoom
+returns-in-Err-NoRoom c =
+    let a = c.args in
+    (refl, refl, inl (lacks a.table.now a.work.now c.carry_out.new.table c.carry_out.new.work c.carry_out.auto.table c.carry_out.auto.work c.in-Err-NoRoom.ensures))
 
--- src/lib.rt:285:1
 pub returns-in-Err-Refused : goal.returns-in-Err-Refused
-returns-in-Err-Refused c = ?
+returns-in-Err-Refused c = let e = c.in-Err-Refused.ensures in (update-refused _ _ _ c.args.out.now e.0, refl, e.1)
 
--- src/lib.rt:285:1
 pub returns-in-Err-Full : goal.returns-in-Err-Full
-returns-in-Err-Full c = ?
+returns-in-Err-Full c =
+    let a = c.args in
+    tries_moved c.in-Err-Full.ensures c.rebase.result a.work.now a.out.now _ _ a.table.now c.carry_out.auto.work c.rebase.ensures
 
--- src/lib.rt:285:1
+pub returns-in_err-deliver-in-Ok : goal.returns-in_err-deliver-in-Ok
+returns-in_err-deliver-in-Ok c =
+    let a = c.args in
+    rw (error_left _ _ c.from_residual.ensures.1) (update-refuses c.in-Ok.ensures a.work.now a.out.now _ a.spare.now a.table.now (rw c.in_err-deliver-in-Ok.was at c.deliver.ensures))
+
 pub returns-in_ok-deliver-in-Ok : goal.returns-in_ok-deliver-in-Ok
-returns-in_ok-deliver-in-Ok c = ?
+returns-in_ok-deliver-in-Ok c =
+    let a = c.args in
+    update-writes c.in-Ok.ensures a.work.now a.out.now _ a.spare.now a.table.now (rw c.in_ok-deliver-in-Ok.was at c.deliver.ensures)
