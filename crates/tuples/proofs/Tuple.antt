@@ -1,5 +1,6 @@
 -- A tuple's bytes and its fields. Assumes nothing.
 use Rattle.std.specs.Prelude.{Some, None, Ok, Err}
+use Rattle.std.proofs.lemmas.Option.{some_pair_parts}
 use mathlib.Core.Path.{◌≡◌, refl, ap, ◌∙◌, subst}
 use mathlib.Core.Bool.{Bool, true, false}
 use mathlib.Core.List.{[], ◌∷◌, ◌++◌, append-nil}
@@ -46,12 +47,11 @@ unfolding header counted number array_header big_endian
 array-short [] n e l h = impossible (cc)
 array-short (b ∷ s) n e l h = by_start (array_by (form_of b)) (array-wide b) h
   where
-    by_count : (w f : ℕ) → T (enough (Some (w, f))) → (t : Bool) → leb w (length s) ≡ t → pick t (Some (number (take w s) + f, 1 + w)) None ≡ Some (n, e)
+    by_count : (w f : ℕ) → T (enough (Some (w, f))) → (t : Bool) → leb w (length s) ≡ t → pick {A = Header} t (Some (number (take w s) + f, 1 + w)) None ≡ Some (n, e)
         → (length (array_header n) ≤ e) × (e ≤ suc (length s))
     by_count w f r true q h =
         let k = leb-true w (length s) q in
-        let p : 1 + w ≡ e = cc in
-        let x : number (take w s) + f ≡ n = cc in
+        let (x, p) = some_pair_parts _ _ _ _ h in
         let few = array_mono n 15 in
         let all = array_mono n 65535 (omega arith) in (
           by_eqb (λ (t : Bool). T t → length (array_header n) ≤ e) w 0
