@@ -145,23 +145,23 @@ module _ {T : Option Fields} {t l w : Bytes} {table back : List ℕ} {base n fir
   undone e = outcome K.held e ∙ ap limited_list (sym K.undoes) ∙ ap (λ (c : Came). undo_by c B) (sym K.goes)
 
   module _ (work out out' spare : Bytes) (old : List ℕ) where
-    pub update-refuses : {k : Refusal} → Delivers (Err k) (bytes (plain (shown t l w table z))) out out' → TriesUpdate (Err (RefusedYet k 0)) D l out out' spare spare work old base n first
-    update-refuses d = (d ∙ ap (λ (o : Outcome). delivered o out) made, refl, omega arith)
+    pub update-refuses : (k : Refusal) → Delivers (Err k) (bytes (plain (shown t l w table z))) out out' → TriesUpdate (Err (RefusedYet k 0)) D l out out' spare spare work old base n first
+    update-refuses k d = (d ∙ ap (λ (o : Outcome). delivered o out) made, refl, omega arith)
 
     pub update-writes : {k : ℕ} → Delivers (Ok k) (bytes (plain (shown t l w table z))) out out' → TriesUpdate (Ok k) D l out out' spare spare work old base n first
     update-writes d = (d ∙ ap (λ (o : Outcome). delivered o out) made, refl)
 
   module _ (work out out' : Bytes) (old : List ℕ) (e : length back ≡ max_operations) where
-    pub undo-refuses : {k : Refusal} → Delivers (Err k) (undo_outcome t l w back z) out out' → TriesUndo (Err (Refused k 0)) D B out out' work old
-    undo-refuses d = (d ∙ ap (λ (o : Outcome). delivered o out) (undone e), omega arith)
+    pub undo-refuses : (k : Refusal) → Delivers (Err k) (undo_outcome t l w back z) out out' → TriesUndo (Err (Refused k 0)) D B out out' work old
+    undo-refuses k d = (d ∙ ap (λ (o : Outcome). delivered o out) (undone e), omega arith)
 
     pub undo-writes : {k : ℕ} → Delivers (Ok k) (undo_outcome t l w back z) out out' → TriesUndo (Ok k) D B out out' work old
     undo-writes d = d ∙ ap (λ (o : Outcome). delivered o out) (undone e)
 
     module _ (un un' : Bytes) where
-      pub press-refuses : {k : Refusal} → DeliversBoth (Err k) (pressing (bytes (plain (shown t l w table z))) (undo_outcome t l w back z)) out out' un un'
+      pub press-refuses : (k : Refusal) → DeliversBoth (Err k) (pressing (bytes (plain (shown t l w table z))) (undo_outcome t l w back z)) out out' un un'
           → TriesPress (Err (Refused k 0)) D B out out' un un' work old
-      press-refuses d = (d ∙ rw (made, undone e), omega arith)
+      press-refuses k d = (d ∙ rw (made, undone e), omega arith)
 
       pub press-writes : (r : ℕ × ℕ) → DeliversBoth (Ok r) (pressing (bytes (plain (shown t l w table z))) (undo_outcome t l w back z)) out out' un un'
           → TriesPress (Ok r) D B out out' un un' work old
@@ -169,7 +169,7 @@ module _ {T : Option Fields} {t l w : Bytes} {table back : List ℕ} {base n fir
 
 -- ---- the list was not done
 
-module _ (T : Option Fields) (t l w : Bytes) {table back : List ℕ} {base n first start : ℕ} (old work : List ℕ) (e : length table ≡ length old) (f : length w ≡ length work) where
+module _ (T : Option Fields) (t l w : Bytes) (table back : List ℕ) (base n first start : ℕ) (old work : List ℕ) (e : length table ≡ length old) (f : length w ≡ length work) where
   pub undo-fails : (u : Unfinished) → Carries (Err u) T t l w table back base n first start → (out : Bytes)
       → TriesUndo (Err (failed_of u)) (comes_to first T (rest_of base n first start l)) (takes_back T (rest_of base n first start l)) out out work old
   undo-fails NoRoomHere h out = (refl, inl (lacks old work table w e f h))

@@ -28,11 +28,16 @@ Undone = Result ℕ Failed
 abbrev pub Pressed : Type 0
 Pressed = Result (ℕ × ℕ) Failed
 
--- why there is no undo list: where the work array is full, it had no room
+-- why nothing is written: where the work array is full, there is no room in it
 abbrev pub failed_of : Unfinished → Failed
 failed_of NoRoomHere = NoRoom
 failed_of (Full z at i) = NoRoom
 failed_of (RefusedHere k i) = Refused k i
+
+abbrev pub call_failed : Unwritten → Failed
+call_failed NoRoomYet = NoRoom
+call_failed (Moved n at i) = NoRoom
+call_failed (RefusedYet k i) = Refused k i
 
 -- what is to be written: the new tuple, and the undo list
 abbrev pub update_by : Came → Outcome

@@ -16,7 +16,7 @@ ghost use Rattle.update_running.specs.Steps.{entry_mark};
 ghost use Rattle.update_running.specs.Held.{entry_bytes, undo_in};
 ghost use Rattle.update_delivering.specs.Gathering.{Gathers, Side, Sides, shown, Stands, in_limits, undo_outcome, Entries, Undoes, Delivers, DeliversBoth, Moves};
 ghost use Rattle.update_running.specs.Carrying.{comes_to, takes_back, rest_of};
-ghost use Rattle.update_delivering.specs.Delivering.{failed_of, TriesUpdate, TriesUndo, TriesPress};
+ghost use Rattle.update_delivering.specs.Delivering.{failed_of, call_failed, TriesUpdate, TriesUndo, TriesPress};
 ghost use Rattle.tuples.specs.declared.Refusal.TheVariants.{LongUndo};
 ghost use Rattle.update_delivering.specs.declared.Failed.TheVariants.{Refused};
 ghost use Rattle.update_delivering.specs.declared.Unwritten.TheVariants.{Refused as RefusedYet};
@@ -48,7 +48,7 @@ pub enum Failed {
 // The lengths of the new tuple and of the undo list, or why neither is written.
 pub type Pressed = Result<(usize, usize), Failed>;
 
-// For an undo list, the work array is as full as it may be.
+// Where the work array is full, the call has no room in it.
 impl From<Unfinished> for Failed {
     ghost from_gives = { λ e f. f ≡ failed_of e };
 
@@ -67,6 +67,19 @@ impl From<Refusal> for Failed {
 
     fn from(refusal: Refusal) -> Failed {
         Failed::Refused(refusal, 0)
+    }
+}
+
+// A call that takes no more turns had no room in one.
+impl From<Unwritten> for Failed {
+    ghost from_gives = { λ e f. f ≡ call_failed e };
+
+    fn from(unwritten: Unwritten) -> Failed {
+        match unwritten {
+            Unwritten::NoRoom => Failed::NoRoom,
+            Unwritten::Moved(_, _, _) => Failed::NoRoom,
+            Unwritten::Refused(refusal, i) => Failed::Refused(refusal, i),
+        }
     }
 }
 
@@ -297,7 +310,7 @@ pub fn update_with(
     ensures { TriesUpdate result (comes_to first (fields_of tuple.now) (rest_of base count first start list.now)) list.now
         out.old out.new spare.old spare.new work.old table.old base count first }
 {
-    let mut none = [0u64; 1];
+    let mut none = [0u64; 0];
     match update_running::carry_out(
         tuple,
         list,
@@ -307,7 +320,7 @@ pub fn update_with(
         count,
         work,
         table,
-        &mut none[..0],
+        &mut none,
     ) {
         Err(Unfinished::NoRoom) => Err(Unwritten::NoRoom),
         Err(Unfinished::Refused(refusal, i)) => Err(Unwritten::Refused(refusal, i)),

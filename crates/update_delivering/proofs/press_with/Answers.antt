@@ -8,12 +8,12 @@ deliver_both-requires c = let K = c.in_ok-stage.ensures in (carried_stands K, ca
 pub returns-in_err-stage : goal.returns-in_err-stage
 returns-in_err-stage c =
     let a = c.args in
-    rw (error_left _ _ c.from_residual.ensures.1) (press-fails _ _ _ _ a.table.now a.work.now c.carry_out.auto.table c.carry_out.auto.work c.in_err-stage.field-0.0 c.in_err-stage.ensures a.out.now a.undo.now)
+    rw (error_left _ _ c.from_residual.ensures.1) (press-fails _ _ _ _ _ _ _ _ _ _ a.table.now a.work.now c.carry_out.auto.table c.carry_out.auto.work c.in_err-stage.field-0.0 c.in_err-stage.ensures a.out.now a.undo.now)
 
 pub returns-in_err-deliver_both : goal.returns-in_err-deliver_both
 returns-in_err-deliver_both c =
     let a = c.args in
-    rw (error_left _ _ c.from_residual-in_err-deliver_both.ensures.1) (press-refuses c.in_ok-stage.ensures a.work.now a.out.now _ a.table.now c.carry_out.auto.back a.undo.now _ (rw c.in_err-deliver_both.was at c.deliver_both.ensures))
+    rw (error_left _ _ c.from_residual-in_err-deliver_both.ensures.1) (press-refuses c.in_ok-stage.ensures a.work.now a.out.now _ a.table.now c.carry_out.auto.back a.undo.now _ _ (rw c.in_err-deliver_both.was at c.deliver_both.ensures))
 
 pub returns : goal.returns
 returns c =

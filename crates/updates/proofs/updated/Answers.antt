@@ -5,14 +5,8 @@ use Rattle.tuples.specs.Call.{update}
 use Rattle.updates.specs.Telling.{Told}
 use Rattle.updates.proofs.updated.Goals as goal
 
-pub returns-in-Refused : goal.returns-in-Refused
-returns-in-Refused c = rw c.in-Refused.is at c.update_in.ensures
-
-pub returns-in-Ok : goal.returns-in-Ok
-returns-in-Ok c = rw c.in-Ok.is at c.update_in.ensures
-
-pub returns-in-NoRoom : goal.returns-in-NoRoom
-returns-in-NoRoom c =
+pub returns-in-Err-NoRoom : goal.returns-in-Err-NoRoom
+returns-in-Err-NoRoom c =
     let a = c.args in
-    let n = rw c.in-NoRoom.is at c.update_in.ensures in
-    subst (λ (x : Bytes). Told c.update_more-in-NoRoom.result (update a.tuple.now a.list.now a.base) x c.update_more-in-NoRoom.new.out) n c.update_more-in-NoRoom.ensures
+    let n = rw c.in-Err-NoRoom.field-0-is at c.in-Err-NoRoom.ensures in
+    subst (λ (x : Bytes). Told c.update_more-in-Err-NoRoom.result (update a.tuple.now a.list.now a.base) x c.update_more-in-Err-NoRoom.new.out) n c.update_more-in-Err-NoRoom.ensures
