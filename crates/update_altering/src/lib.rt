@@ -26,7 +26,7 @@ pub enum Obstacle {
 // A refusal is an obstacle, so that `?` passes it on as one.
 impl From<Refusal> for Obstacle {
     fn from(refusal: Refusal) -> Obstacle
-        ensures { result ≡ Refused refusal }
+        ensures { result ≡ Obstacle.Refused refusal }
     {
         Obstacle::Refused(refusal)
     }

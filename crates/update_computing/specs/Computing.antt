@@ -4,6 +4,7 @@ use Rattle.std.specs.Int.Bits.{bit_and, bit_xor, bit_or}
 use Rattle.msgpack_first_bytes.specs.Bytes.{Bytes, pick}
 use Rattle.msgpack_scalars.specs.declared.Int.{Int}
 use Rattle.msgpack_read_back.specs.Claims.{integer_form, InRange}
+use Rattle.tuples.specs.declared.Refusal.{Refusal}
 use Rattle.tuples.specs.Operation.{plus, minus}
 use Rattle.tuples.specs.Edit.{Edit, refuse, put, edit_at}
 use Rattle.update_operations.specs.Found.{bitwise_in}

@@ -177,6 +177,7 @@ span_back l (gets b s) h = rw (part-is b s h, rest-after b s h)
 pub span_order : (l : Bytes) (g : Got Bytes) {a e : ℕ} → Some (a, e) ≡ span_by l g → (a ≤ e) × (e ≤ length l)
 span_order l fails q = absurd (let z : ◌≡◌ {A = ℕ} 0 1 = cc in omega arith)
 span_order l (gets b s) {a} {e} q =
-    let i : a ≡ length l - length s - length b = cc in
-    let j : e ≡ length l - length s = cc in
+    let k : ◌≡◌ {A = ℕ × ℕ} (a, e) (length l - length s - length b, length l - length s) = cc in
+    let i : a ≡ length l - length s - length b = ap (λ (x : ℕ × ℕ). x.0) k in
+    let j : e ≡ length l - length s = ap (λ (x : ℕ × ℕ). x.1) k in
     (omega arith, omega arith)

@@ -2,8 +2,8 @@
 use Rattle.update_altering.proofs.Numbers as Numbers
 use Rattle.update_altering.proofs.put_number.Goals as goal
 
-pub returns-then-end-used : goal.returns-then-end-used
-returns-then-end-used c = Numbers.number-none c.args.z c.args.work.now c.args.used c.requires c.write_number-end.ensures c.if-end-used.true
+pub returns-then-end-eq0 : goal.returns-then-end-eq0
+returns-then-end-eq0 c = Numbers.number-none c.args.z c.args.out.now 0 c.requires c.write_number-end.ensures c.if-end-eq0.true
 
 pub returns : goal.returns
-returns c = Numbers.number_is c.args.z c.args.work.now c.args.used c.requires c.write_number-end.ensures c.if-end-used.false
+returns c = Numbers.number_is c.args.z c.args.out.now 0 c.requires c.write_number-end.ensures c.if-end-eq0.false
