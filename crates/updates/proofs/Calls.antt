@@ -37,6 +37,8 @@ use Rattle.msgpack_writing.proofs.Put.{wrote, through}
 use Rattle.update_delivering.specs.Delivering.{Rebased, call_failed, update_by, undo_by, long_by, both_written, Lacks, TriesUpdate, TriesUndo, TriesPress, Tried, Pressed}
 use Rattle.updates.specs.declared.Front.{Front}
 use Rattle.updates.specs.Telling.{Call, Fronts, came_of, Tells, Told, ToldOrLong, PressTells, PressToldOrLong, Refuses, answer_by, FewIn, press_answer_by}
+use Rattle.tuples.specs.declared.Answer.{Answer}
+use Rattle.update_delivering.specs.declared.Failed.{Failed}
 use Rattle.update_delivering.specs.declared.Failed.TheVariants.{NoRoom, Refused}
 use Rattle.update_delivering.specs.declared.Unwritten.TheVariants.{Moved, NoRoom as NoRoomYet, Refused as RefusedYet}
 
@@ -158,6 +160,13 @@ module _ (t l : Bytes) (b : ℕ) (f : Front) (F : Fronts b l f) (out left : Byte
     told-long-press (Ok (n, m)) work table h k s = s ∙ press_as
 
 -- ---- answers
+
+module _ {r : Call} {e : Failed} (p : r ≡ Err e) where
+  pub few_in : {k : Refusal} {i : ℕ} → e ≡ Refused k i → FewIn r → i ≤ max_operations
+  few_in q h = subst FewIn (p ∙ ap (λ (x : Failed). Err x) q) h
+
+  pub answer_failed : (t l : Bytes) {f : Failed} → e ≡ f → {a : Answer} → a ≡ answer_by (Err f) t l → a ≡ answer_by r t l
+  answer_failed t l q h = h ∙ ap (λ (x : Call). answer_by x t l) (sym (p ∙ ap (λ (x : Failed). Err x) q))
 
 pub told-few : (r : Call) (o : Outcome) (out left : Bytes) → Told r o out left → FewIn r
 told-few (Err NoRoom) o out left h = tt

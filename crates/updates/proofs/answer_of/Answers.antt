@@ -4,13 +4,11 @@ use native.Mathlib.Omega.{arith}
 use Rattle.tuples.specs.declared.Answer.{Answer}
 use Rattle.tuples.specs.Call.{spoiled_in}
 use Rattle.update_answers.specs.Seen.{answer_at}
+use Rattle.updates.proofs.Calls.{few_in, answer_failed}
 use Rattle.updates.proofs.answer_of.Goals as goal
 
 pub overflow_cast-i : goal.overflow_cast-i
-overflow_cast-i c =
-    let n = c.in-Err-Refused in
-    let f = rw n.field-0-is at c.requires in
-    omega arith
+overflow_cast-i c = omega (arith, few_in c.in-Err-Refused.is (rw c.in-Err-Refused.is at c.in-Err-Refused.field-0-is) c.requires)
 
 pub returns-in-Ok : goal.returns-in-Ok
 returns-in-Ok c = rw c.in-Ok.is
@@ -19,7 +17,10 @@ pub returns-in-Err-Refused : goal.returns-in-Err-Refused
 returns-in-Err-Refused c =
     let a = c.args in
     let n = c.in-Err-Refused in
-    rw n.field-0-is (c.with_place.ensures ∙ ap (λ (r : Answer). answer_at (spoiled_in r.number a.tuple.now a.list.now) r) c.refused.ensures)
+    answer_failed n.is a.tuple.now a.list.now (rw n.is at n.field-0-is) (c.with_place.ensures ∙ ap (λ (r : Answer). answer_at (spoiled_in r.number a.tuple.now a.list.now) r) c.refused.ensures)
 
 pub returns-in-Err-NoRoom : goal.returns-in-Err-NoRoom
-returns-in-Err-NoRoom c = let n = c.in-Err-NoRoom in rw n.field-0-is c.refused-in-Err-NoRoom.ensures
+returns-in-Err-NoRoom c =
+    let a = c.args in
+    let n = c.in-Err-NoRoom in
+    answer_failed n.is a.tuple.now a.list.now (rw n.is at n.field-0-is) c.refused-in-Err-NoRoom.ensures
