@@ -1,11 +1,11 @@
 -- The lines in the parts that are written. Assumes nothing.
 use Rattle.std.specs.Prelude.{Ok, Err}
-use mathlib.Core.Path.{◌≡◌, sym, ◌∙◌}
+use mathlib.Core.Path.{◌≡◌}
 use mathlib.Core.List.{◌++◌, append_assoc}
-use Prim.Native.Nat.{ℕ, ◌+◌, ◌-◌, ◌<◌}
-use native.Mathlib.Omega.{arith}
+use Prim.Native.Nat.{ℕ, ◌+◌, min}
 use lib.ListN.{length, take}
-use lib.Seq.{take_all, take-length}
+use lib.Seq.{take-length}
+use Rattle.std.proofs.lemmas.List.{take_min}
 use Rattle.msgpack_first_bytes.specs.Bytes.{Bytes}
 use Rattle.frames.specs.Reading.{size_of}
 use Rattle.frame_fault.specs.Fault.{own_by, own}
@@ -21,11 +21,6 @@ module _ (s : Bytes) (n k : ℕ) where
   unfolding own_by
   own-refused e = rw (← e) (take-length s)
 
-  module _ (e : Ok (n, k) ≡ size_of s) where
-    pub own-cut : length s - k < n → take (length s) s ≡ own s
-    unfolding own_by
-    own-cut h = rw (← e) (take-length s ∙ sym (take_all (k + n) s (omega arith)))
-
-    pub own_promised : take (k + n) s ≡ own s
-    unfolding own_by
-    own_promised = rw (← e)
+  pub own_promised : Ok (n, k) ≡ size_of s → {m : ℕ} → m ≡ min (k + n) (length s) → take m s ≡ own s
+  unfolding own_by
+  own_promised e h = rw (← e, h) (take_min (k + n) s)

@@ -7,7 +7,7 @@ use Rattle.msgpack_numbers.specs.Number.{number as sum}
 use Rattle.msgpack_values.specs.Value.{value, one, container, too_deep, by_form, items, sized, payload}
 use Rattle.msgpack_scalars.specs.Integer.{due_in, due, natural_of, unsigned_by, unsigned}
 use Rattle.msgpack_scalars.specs.Header.{counted, header}
-use Rattle.frames.specs.Held.{all, view, as_number, number_in, is_header, suits, number_or_bytes, value_held, held_at, number_held, place_held}
+use Rattle.frames.specs.Held.{view, as_number, number_in, is_header, suits, number_or_bytes, value_held, held_at, number_held, place_held}
 use Rattle.frames.specs.Keys.{header_items, body_items, optional, code_in, frame_at, empty_frame}
 use Rattle.frames.specs.Codes.{codes, among, is_error, required}
 use Rattle.frames.specs.Maps.{keyed, entry_at, entries, entries_by, entries_at, keys, has, distinct, find}
@@ -71,7 +71,7 @@ cases =
     ∷ []
 
 examples : map (λ (c : Case). report c.input) cases ≡ map (λ (c : Case). text c.report) cases
-unfolding report report_from clean_line fault own_by place_line refused_line frame_line words_of name_in refusals dump dump_start cells cell column between decimal digits spoiled_at frame_read by_size size_of size_by in_frame broken body_entries body_value by_entries by_places suited accept refuse whole given check find distinct has keys entries_at entries_by entries entry_at keyed required is_error among codes empty_frame frame_at code_in optional header_items body_items number_held place_held held_at value_held number_or_bytes suits is_header number_in as_number view all value one container too_deep by_form items sized payload sum form_of same_kind unsigned unsigned_by due due_in natural_of header counted
+unfolding report report_from clean_line fault own_by place_line refused_line frame_line words_of name_in refusals dump dump_start cells cell column between decimal digits spoiled_at frame_read by_size size_of size_by in_frame broken body_entries body_value by_entries by_places suited accept refuse whole given check find distinct has keys entries_at entries_by entries entry_at keyed required is_error among codes empty_frame frame_at code_in optional header_items body_items number_held place_held held_at value_held number_or_bytes suits is_header number_in as_number view value one container too_deep by_form items sized payload sum form_of same_kind unsigned unsigned_by due due_in natural_of header counted
 examples = refl
 
 -- input that is too long, whatever it is

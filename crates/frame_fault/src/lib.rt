@@ -38,7 +38,7 @@ fn write_frame(out: &mut [u8], at: usize, frame: u64, from: usize) -> usize
 fn write_refused(out: &mut [u8], at: usize, number: u32) -> usize
     ensures { Lays out.old at (refused_line number) out.new result }
 {
-    let mut to = write_counted(out, at, b"refused  ", number as u64, b',', b" ");
+    let mut to = write_counted(out, at, b"refused  ", u64::from(number), b',', b" ");
     to = write_words(out, to, number);
     write_bytes(out, to, b"\n")
 }
@@ -67,13 +67,8 @@ fn own_length(left: &[u8]) -> usize
     ensures { (result ≤ length left.now) × (take result left.now ≡ own left.now) }
 {
     match frame_reading::read_size(left) {
+        Ok((size, from)) => (from + size).min(left.len()),
         Err(_) => left.len(),
-        Ok((size, from)) => {
-            if left.len() - from < size {
-                return left.len();
-            }
-            from + size
-        }
     }
 }
 
@@ -114,8 +109,7 @@ fn compose(input: &[u8], out: &mut [u8]) -> usize
     while at < input.len() {
         let answer = frame_reading::read_frame(&input[at..]);
         if answer.number != 0 {
-            let place = answer.place;
-            return write_fault(out, frames + 1, at, &input[at..], answer.number, place);
+            return write_fault(out, frames + 1, at, &input[at..], answer.number, answer.place);
         }
         at += answer.length;
         frames += 1;

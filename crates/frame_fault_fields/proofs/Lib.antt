@@ -1,5 +1,4 @@
 -- The laws of the parts of a report. Assumes nothing.
 pub mod Laying
-pub mod Words
 pub mod Column
 pub mod Lengths

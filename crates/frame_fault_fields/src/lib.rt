@@ -21,30 +21,29 @@ const DUMP_ROOM: usize = 360;
 const DUMP_LIMIT: usize = 65_536;
 
 // A refusal's words.
+#[tactic(auto, unfolding(crate::specs::Words::words_of, crate::specs::Words::refusals, frame_listing_fields::specs::Names::name_in))]
+fn words_of(number: u32) -> &'static [u8]
+    ensures { result.now ≡ words_of number }
+{
+    match number {
+        1 => b"the frame has not all come",
+        2 => b"the first byte starts no size number",
+        3 => b"the size is 0 or above 60,000",
+        4 => b"a value is broken, runs past its bytes or is too deep",
+        5 => b"bytes remain after the body",
+        6 => b"header or body is not a map, or a key is not 0 to 127",
+        7 => b"a key stands twice",
+        8 => b"the code is absent, not unsigned or unknown",
+        9 => b"a known key holds a wrong type or range",
+        10 => b"a required key of the body is absent",
+        _ => b"",
+    }
+}
+
 pub fn write_words(out: &mut [u8], at: usize, number: u32) -> usize
     ensures { (result ≡ next at (words_of number) out.old) × (out.new ≡ put at (words_of number) out.old) }
 {
-    match number {
-        1 => write_bytes(out, at, b"the frame has not all come"),
-        2 => write_bytes(out, at, b"the first byte starts no size number"),
-        3 => write_bytes(out, at, b"the size is 0 or above 60,000"),
-        4 => write_bytes(
-            out,
-            at,
-            b"a value is broken, runs past its bytes or is too deep",
-        ),
-        5 => write_bytes(out, at, b"bytes remain after the body"),
-        6 => write_bytes(
-            out,
-            at,
-            b"header or body is not a map, or a key is not 0 to 127",
-        ),
-        7 => write_bytes(out, at, b"a key stands twice"),
-        8 => write_bytes(out, at, b"the code is absent, not unsigned or unknown"),
-        9 => write_bytes(out, at, b"a known key holds a wrong type or range"),
-        10 => write_bytes(out, at, b"a required key of the body is absent"),
-        _ => at,
-    }
+    write_bytes(out, at, words_of(number))
 }
 
 // 0 to 9, then a to f.
@@ -52,20 +51,16 @@ fn hex_digit(d: u8) -> u8
     requires { d < 16 }
     ensures { result ≡ hex_digit d }
 {
-    if d < 10 { 48 + d } else { 87 + d }
+    if d < 10 { b'0' + d } else { b'a' + (d - 10) }
 }
 
 // A byte in hexadecimal, between marks where it is the place's.
 fn write_byte(out: &mut [u8], at: usize, b: u8, marked: bool) -> usize
     ensures { Lays out.old at (between marked b) out.new result }
 {
-    let high = hex_digit(b >> 4);
+    let high = hex_digit(b / 16);
     let low = hex_digit(b % 16);
-    if marked {
-        let cell = [b'>', high, low, b'<'];
-        return write_bytes(out, at, &cell);
-    }
-    let cell = [b' ', high, low, b' '];
+    let cell = if marked { [b'>', high, low, b'<'] } else { [b' ', high, low, b' '] };
     write_bytes(out, at, &cell)
 }
 
@@ -111,17 +106,15 @@ fn write_cell(out: &mut [u8], at: usize, frame: &[u8], place: OptionalNumber, i:
 }
 
 // The first byte of the line two before that of the place, or of the first line.
+#[tactic(auto, unfolding(crate::specs::Dump::dump_start))]
 fn dump_start(place: OptionalNumber) -> usize
     ensures { result ≡ dump_start place }
 {
     if place.present {
-        let line = place.value >> 4;
-        if line < 2 {
-            return 0;
-        }
-        return ((line - 2) << 4) as usize;
+        ((place.value / 16).saturating_sub(2) * 16) as usize
+    } else {
+        0
     }
-    0
 }
 
 // The cells of `count` bytes of `frame`, from byte `from` on, at the front of `text`.
@@ -136,10 +129,8 @@ fn lay_cells(
     ensures { Lays text.old 0 (cells frame.now place from count) text.new result }
 {
     let mut to: usize = 0;
-    let mut i: usize = 0;
-    while i < count {
+    for i in 0..count {
         to = write_cell(text, to, frame, place, from + i);
-        i += 1;
     }
     to
 }

@@ -2,12 +2,14 @@
 use mathlib.Core.Path.{◌≡◌, sym, ap, ◌∙◌}
 use mathlib.Core.List.{List, []}
 use mathlib.Core.Bool.{Bool, true, false}
-use Prim.Native.Nat.{ℕ, ◌+◌, ◌-◌, ◌<◌, ◌≤◌}
+use mathlib.Core.Logic.{⊎_elim}
+use Prim.Native.Nat.{ℕ, min, ◌+◌, ◌-◌, ◌<◌, ◌≤◌}
 use native.Mathlib.Omega.{arith}
 use native.Mathlib.Numerals.{add-one}
 use lib.ListN.{length, take, drop, get_or, length-drop, drop_of_length-le}
 use lib.Seq.{take_all, take-nil, drop-cons}
 use Rattle.msgpack_first_bytes.specs.Bytes.{Bytes}
+use Rattle.msgpack_first_bytes.proofs.Logic.{either}
 use Rattle.msgpack_scalars.specs.Integer.{unsigned}
 use Rattle.msgpack_values.specs.declared.OptionalNumber.{OptionalNumber}
 use Rattle.frames.specs.declared.Place.{Place}
@@ -32,6 +34,16 @@ module _ (s : Bytes) (p : Place) where
   unfolding view
   view-part = let e : p.start + p.length - p.start ≡ p.length = omega arith in ap (λ (n : ℕ). take n (drop p.start s)) e
 
+  -- cut short where the bytes end
+  pub view_cut : (a b : ℕ) → a ≡ min p.start (length s) → b ≡ min p.length (length s - a) → take (a + b - a) (drop a s) ≡ view s p
+  view_cut a b ea eb =
+      let n : a + b - a ≡ b = omega arith in
+      rw n (⊎_elim (λ h.
+      rw (drop_of_length-le s {i = a} (omega arith)) (take-nil b ∙ view_past h)) (λ h.
+      let i : a ≡ p.start = omega arith in
+      ⊎_elim (λ k. let j : b ≡ p.start + p.length - p.start = omega arith in rw (i, j) view-part)
+      (λ k. let j : b ≡ length s - p.start = omega arith in rw (i, j) (view-rest k)) (either p.length (length s - p.start))) (either (length s) p.start))
+
 -- ---- by the place: absent, or there
 
 module _ (s : Bytes) (p q : Place) (e : p ≡ q) where
@@ -50,14 +62,3 @@ module _ (s : Bytes) (p q : Place) (e : p ≡ q) where
   pub suits-none : (r : Rule) → p.present ≡ false → true ≡ suits r (held_at r s q)
   unfolding held_at suits
   suits-none r h = rw (← e, h)
-
--- ---- one after the other
-
-module _ {A : Type 0} (p : A → Bool) (xs : List A) (d : A) (i : ℕ) (h : i < length xs) where
-  pub all-fails : p (get_or xs i d) ≡ false → all p (drop i xs) ≡ false
-  unfolding all
-  all-fails e = rw (drop-cons xs i d h, e)
-
-  pub all-goes-on : p (get_or xs i d) ≡ true → all p (drop (i + 1) xs) ≡ all p (drop i xs)
-  unfolding all
-  all-goes-on e = rw (drop-cons xs i d h, e, add-one)

@@ -34,40 +34,39 @@ fn view_sound(v: &[u8]) -> bool
     }
 }
 
+#[tactic(auto, unfolding(crate::specs::Content::held_of, frames::specs::Writing::sound))]
 pub fn is_sound(bytes: &[u8], content: Content) -> bool
     ensures { result ≡ sound (held_of bytes.now content) }
 {
     match content {
-        Content::Absent => true,
+        Content::Absent | Content::Number(_) => true,
         Content::Outside => false,
-        Content::Number(_) => true,
         Content::View(place) => view_sound(frame_fields::view_of(bytes, place)),
     }
 }
 
 // 9, of a number and of a value.
+#[tactic(auto, unfolding(frames::specs::Held::suits))]
 fn number_suits(n: u64, rule: Rule) -> bool
     ensures { result ≡ suits rule (number n) }
 {
     match rule {
         Rule::AtMost(limit) => n <= limit,
-        Rule::Array => false,
-        Rule::String => false,
-        Rule::Anything => false,
+        Rule::Array | Rule::String | Rule::Anything => false,
     }
 }
 
+#[tactic(auto, unfolding(frames::specs::Held::suits, frames::specs::Held::value_held))]
 fn view_suits(v: &[u8], rule: Rule) -> bool
     ensures { result ≡ suits rule (encoding v.now) }
 {
     match rule {
         Rule::AtMost(_) => false,
-        Rule::Array => frame_rules::suits_rule(Rule::Array, v),
-        Rule::String => frame_rules::suits_rule(Rule::String, v),
-        Rule::Anything => true,
+        Rule::Array | Rule::String | Rule::Anything => frame_rules::suits_rule(rule, v),
     }
 }
 
+#[tactic(auto, unfolding(crate::specs::Content::held_of, frames::specs::Held::suits))]
 pub fn content_suits(bytes: &[u8], rule: Rule, content: Content) -> bool
     ensures { result ≡ suits rule (held_of bytes.now content) }
 {
@@ -79,34 +78,31 @@ pub fn content_suits(bytes: &[u8], rule: Rule, content: Content) -> bool
     }
 }
 
+#[tactic(auto, unfolding(crate::specs::Content::is_written))]
 pub fn is_written(content: Content) -> bool
     ensures { result ≡ is_written content }
 {
     match content {
-        Content::Absent => false,
-        Content::Outside => false,
-        Content::Number(_) => true,
-        Content::View(_) => true,
+        Content::Absent | Content::Outside => false,
+        Content::Number(_) | Content::View(_) => true,
     }
 }
 
 // A value's length with its key's byte.
+#[tactic(auto, unfolding(crate::specs::Content::capped))]
 fn with_key(n: usize) -> usize
     ensures { result ≡ capped (n + 1) }
 {
-    if n < frames::MAX_SIZE {
-        return n + 1;
-    }
-    frames::MAX_SIZE + 1
+    n.min(frames::MAX_SIZE) + 1
 }
 
 // How many bytes a key and what it holds take, counted up to one more than a frame has.
+#[tactic(auto, unfolding(crate::specs::Content::held_of, frames::specs::Held::encoded, crate::specs::Content::pair_length, crate::specs::Content::capped))]
 pub fn pair_length(bytes: &[u8], content: Content) -> usize
     ensures { result ≡ capped (pair_length (encoded (held_of bytes.now content))) }
 {
     match content {
-        Content::Absent => 0,
-        Content::Outside => 0,
+        Content::Absent | Content::Outside => 0,
         Content::Number(n) => with_key(msgpack_writing::unsigned_length(n)),
         Content::View(place) => with_key(frame_fields::view_of(bytes, place).len()),
     }

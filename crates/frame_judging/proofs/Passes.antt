@@ -37,7 +37,6 @@ none_yet zs = let e : 0 + length (pair_bytes zs) ≡ length (pair_bytes zs) = om
 
 module _ (s : Bytes) (k : KnownKey) {xs rest : List Item} (e : xs ≡ item_of s k ∷ rest) where
   all_turn : (p : Item → Bool) (a : Bool) {b z : Bool} → b ≡ p (item_of s k) → (a && all p xs) ≡ z → ((a && b) && all p rest) ≡ z
-  unfolding all
   all_turn p a q h = rw q (sym (and_assoc a (p (item_of s k)) (all p rest)) ∙ (rw e at h))
 
   pub next_turn : {zs : List Item} {a b v w : Bool} {n m t p u : ℕ} → Left zs xs a b n t
@@ -56,7 +55,7 @@ module _ (s : Bytes) (k : KnownKey) {xs rest : List Item} (e : xs ≡ item_of s 
 
 pub none_left : {zs xs : List Item} {a b : Bool} {n t : ℕ} → Left zs xs a b n t → xs ≡ []
     → record { sound = a; suited = b; count = n; length = t } ≡ judgement_of zs
-unfolding all pairs
+unfolding pairs
 none_left {zs} {a = a} {b = b} {n = n} {t = t} l e =
     let four = sym (and_true a) ∙ (rw e at l.four) in
     let nine = sym (and_true b) ∙ (rw e at l.nine) in

@@ -2,15 +2,14 @@
 #![tactic(auto)]
 
 ghost use Rattle.std.specs.Prelude.{◌≡◌, ℕ, ◌+◌, ◌≤◌};
-ghost use Rattle.msgpack_first_bytes.specs.Bytes.{pick};
 ghost use Rattle.frames.specs.Held.{all, encoded, is_some, locate};
 ghost use Rattle.frames.specs.Keys.{header_items, body_items};
 ghost use Rattle.frames.specs.Limits.{known_keys};
-ghost use Rattle.frame_items.specs.Content.{is_written, capped};
+ghost use Rattle.frame_items.specs.Content.{capped};
 ghost use Rattle.frame_judging.specs.Parts.{items_between};
 ghost use Rattle.frame_judging.specs.Judged.{judgement_of};
 
-use frame_items::Content;
+use frame_items::KnownKey;
 use frames::{Frame, HEADER_KEYS, KNOWN_KEYS, MAX_SIZE};
 
 // What the writer asks of a run of known keys: 4, 9, how many pairs it writes, and how long they
@@ -27,14 +26,11 @@ pub struct Judgement {
 fn holds(frame: Frame, bytes: &[u8], key: usize) -> bool
     ensures { result ≡ is_some (encoded (locate (body_items frame bytes.now) key)) }
 {
-    let mut i: usize = HEADER_KEYS;
-    while i < KNOWN_KEYS {
+    for i in HEADER_KEYS..KNOWN_KEYS {
         let known = frame_keys::known_key(frame, bytes, i);
-        let content = known.content;
-        if key == known.key as usize {
-            return frame_items::is_written(content);
+        if key == usize::from(known.key) {
+            return frame_items::is_written(known.content);
         }
-        i += 1;
     }
     false
 }
@@ -43,36 +39,14 @@ fn holds(frame: Frame, bytes: &[u8], key: usize) -> bool
 pub fn holds_all(frame: Frame, bytes: &[u8], keys: &[usize]) -> bool
     ensures { result ≡ all (λ (k : ℕ). is_some (encoded (locate (body_items frame bytes.now) k))) keys.now }
 {
-    let mut i: usize = 0;
-    while i < keys.len() {
-        if !holds(frame, bytes, keys[i]) {
-            return false;
-        }
-        i += 1;
-    }
-    true
+    keys.iter().all(|key| holds(frame, bytes, *key))
 }
 
+#[tactic(auto, unfolding(frame_items::specs::Content::capped))]
 fn capped_sum(a: usize, b: usize) -> usize
     ensures { result ≡ capped (a + b) }
 {
-    if MAX_SIZE < a {
-        return MAX_SIZE + 1;
-    }
-    if MAX_SIZE - a < b {
-        return MAX_SIZE + 1;
-    }
-    a + b
-}
-
-fn pairs_of(content: Content) -> u32
-    ensures { (result ≡ pick (is_written content) 1 0) × (result ≤ 1) }
-{
-    if frame_items::is_written(content) {
-        1
-    } else {
-        0
-    }
+    a.saturating_add(b).min(MAX_SIZE + 1)
 }
 
 // The keys from one on and up to another. One pass, since looking a key up takes longest.
@@ -84,23 +58,14 @@ fn judged(frame: Frame, bytes: &[u8], from: usize, to: usize) -> Judgement
     let mut suited = true;
     let mut count: u32 = 0;
     let mut length: usize = 0;
-    let mut i = from;
-    while i < to {
-        let known = frame_keys::known_key(frame, bytes, i);
-        let rule = known.rule;
-        let content = known.content;
-        sound = sound & frame_items::is_sound(bytes, content);
-        suited = suited & frame_items::content_suits(bytes, rule, content);
-        count += pairs_of(content);
+    for i in from..to {
+        let KnownKey { rule, content, .. } = frame_keys::known_key(frame, bytes, i);
+        sound &= frame_items::is_sound(bytes, content);
+        suited &= frame_items::content_suits(bytes, rule, content);
+        count += u32::from(frame_items::is_written(content));
         length = capped_sum(length, frame_items::pair_length(bytes, content));
-        i += 1;
     }
-    Judgement {
-        sound,
-        suited,
-        count,
-        length,
-    }
+    Judgement { sound, suited, count, length }
 }
 
 pub fn header_judged(frame: Frame, bytes: &[u8]) -> Judgement

@@ -5,37 +5,31 @@ ghost use Rattle.std.specs.Prelude.{◌≡◌};
 ghost use Rattle.frame_items.specs.Content.{number_content, place_content, content_at, known_key_at};
 
 use frame_items::{Content, KnownKey};
-use frames::{Frame, Place};
+use frames::{Frame, Line, Place};
 use msgpack_values::OptionalNumber;
 
+#[tactic(auto, unfolding(frame_items::specs::Content::number_content))]
 fn number_content(n: OptionalNumber) -> Content
     ensures { result ≡ number_content n }
 {
-    if n.present {
-        return Content::Number(n.value);
-    }
-    Content::Absent
+    if n.present { Content::Number(n.value) } else { Content::Absent }
 }
 
 // The tests subtract, since a sum of start and length could wrap.
 fn place_content(bytes: &[u8], place: Place) -> Content
     ensures { result ≡ place_content bytes.now place }
 {
-    let start = place.start;
-    let length = place.length;
     if !place.present {
         return Content::Absent;
     }
-    if bytes.len() < start {
-        return Content::Outside;
-    }
-    if bytes.len() - start < length {
+    if bytes.len() < place.start || bytes.len() - place.start < place.length {
         return Content::Outside;
     }
     Content::View(place)
 }
 
 // What the i-th known key holds, in the order of document 01's tables; past the last nothing.
+#[tactic(auto, unfolding(frame_items::specs::Content::content_at))]
 fn content_of(frame: Frame, bytes: &[u8], i: usize) -> Content
     ensures { result ≡ content_at frame bytes.now i }
 {
@@ -62,14 +56,10 @@ fn content_of(frame: Frame, bytes: &[u8], i: usize) -> Content
 }
 
 // The i-th known key with what it must hold and what it holds; past the last, key 0 and nothing.
+#[tactic(auto, unfolding(frame_items::specs::Content::known_key_at))]
 pub fn known_key(frame: Frame, bytes: &[u8], i: usize) -> KnownKey
     ensures { result ≡ known_key_at frame bytes.now i }
 {
-    let line = frame_rules::line_of(i);
-    let rule = line.rule;
-    KnownKey {
-        key: line.key,
-        rule,
-        content: content_of(frame, bytes, i),
-    }
+    let Line { key, rule } = frame_rules::line_of(i);
+    KnownKey { key, rule, content: content_of(frame, bytes, i) }
 }

@@ -17,8 +17,8 @@ pub const MOST: usize = 65_536;
 // The lines of any input have room in this.
 pub const ROOM: usize = 22 * MOST;
 
-// How many bytes the first line has.
-const HEADING: usize = 22;
+// The first line.
+const HEADING: &[u8] = b"frame\tkind\tsync\tbytes\n";
 
 // The line of a frame: its number, kind, sync and bytes.
 fn write_frame(out: &mut [u8], number: u64, code: u64, sync: OptionalNumber, bytes: u64) -> usize
@@ -44,6 +44,7 @@ fn write_last(out: &mut [u8], how: &[u8], n: u64) -> usize
 }
 
 // How long a line is, and how many bytes of the input it is for: none where it is the last.
+// Stays: (d) 0 for the last one: with an Option, `lay` would have to be told too that a frame's bytes are not 0.
 #[derive(Clone, Copy)]
 struct Line {
     length: usize,
@@ -55,23 +56,20 @@ fn first_line(left: &[u8], number: u64, line: &mut [u8]) -> Line
     requires { (length left.now ≤ max_input) × (number ≤ max_input + 1) × (length line.old ≡ 64) }
     ensures { First number left.now result line.new }
 {
-    if left.len() == 0 {
-        let length = write_last(line, b"end\tclean\t", 0);
-        return Line { length, bytes: 0 };
+    if left.is_empty() {
+        return Line { length: write_last(line, b"end\tclean\t", 0), bytes: 0 };
     }
     let answer = frame_reading::read_frame(left);
-    if answer.number == 1 {
-        let length = write_last(line, b"end\tincomplete\t", left.len() as u64);
-        return Line { length, bytes: 0 };
+    match answer.number {
+        0 => {
+            let frame = answer.frame;
+            let bytes = answer.length;
+            let length = write_frame(line, number, frame.code, frame.sync, bytes as u64);
+            Line { length, bytes }
+        }
+        1 => Line { length: write_last(line, b"end\tincomplete\t", left.len() as u64), bytes: 0 },
+        n => Line { length: write_last(line, b"end\trefused\t", u64::from(n)), bytes: 0 },
     }
-    if answer.number != 0 {
-        let length = write_last(line, b"end\trefused\t", answer.number as u64);
-        return Line { length, bytes: 0 };
-    }
-    let frame = answer.frame;
-    let bytes = answer.length;
-    let length = write_frame(line, number, frame.code, frame.sync, bytes as u64);
-    Line { length, bytes }
 }
 
 // The lines of input that is not too long, from `from` on, as far as they have room; how long they are.
@@ -85,9 +83,7 @@ fn lay(input: &[u8], out: &mut [u8], from: usize) -> usize
     let mut at: usize = 0;
     let mut number: u64 = 1;
     loop {
-        let next = first_line(&input[at..], number, &mut line);
-        let length = next.length;
-        let bytes = next.bytes;
+        let Line { length, bytes } = first_line(&input[at..], number, &mut line);
         write_bytes(out, from + to, &line[..length]);
         to += length;
         if bytes == 0 {
@@ -107,11 +103,10 @@ pub fn list(input: &[u8], out: &mut [u8]) -> usize
     if MOST < input.len() {
         return write_bytes(out, 0, b"frame\tkind\tsync\tbytes\nend\tlong\t65536\n");
     }
-    let mut none = [0u8; 1];
-    let length = lay(input, &mut none, 0);
-    if out.len() < HEADING + length {
+    let length = lay(input, &mut [], 0);
+    if out.len() < HEADING.len() + length {
         return 0;
     }
-    let from = write_bytes(out, 0, b"frame\tkind\tsync\tbytes\n");
+    let from = write_bytes(out, 0, HEADING);
     from + lay(input, out, from)
 }

@@ -54,27 +54,24 @@ store l j v h =
 
 module _ (l w : Bytes) (n i : ℕ) (h : i ≤ length l) (k : length (decimal n) ≤ i) (e : decimal n ++ drop i l ≡ w) where
   -- a digit is stored and more are left
-  pub turn : 10 ≤ n → n < 10 ^ 20 → (1 < i) × ((length (decimal (n / 10)) ≤ i - 1) × (decimal (n / 10) ++ drop (i - 1) (set l (i - 1) (n % 10 + 48)) ≡ w))
+  pub turn : 10 ≤ n → n < 10 ^ 20 → (length (decimal (n / 10)) ≤ i - 1) × (decimal (n / 10) ++ drop (i - 1) (set l (i - 1) (48 + n % 10)) ≡ w)
   turn t u =
       let m : decimal n ≡ decimal (n / 10) ++ digit (n % 10) = decimal-more n t u in
       let s = some_digit (n / 10) in
       let z : length (decimal n) ≡ length (decimal (n / 10)) + 1 = ap length m ∙ length-append (decimal (n / 10)) (digit (n % 10)) in
       let j : suc (i - 1) ≡ i = omega arith in
-      let v : n % 10 + 48 ≡ 48 + n % 10 = omega arith in (
+      (
         omega arith,
-        (
-          omega arith,
-          ap (◌++◌ (decimal (n / 10))) (store l (i - 1) (n % 10 + 48) (omega arith))
-              ∙ rw (j, v) (sym (append_assoc (decimal (n / 10)) (digit (n % 10)) (drop i l)))
-              ∙ ap (λ (x : Bytes). x ++ drop i l) (sym m)
-              ∙ e,
-        ),
+        ap (◌++◌ (decimal (n / 10))) (store l (i - 1) (48 + n % 10) (omega arith))
+            ∙ rw j (sym (append_assoc (decimal (n / 10)) (digit (n % 10)) (drop i l)))
+            ∙ ap (λ (x : Bytes). x ++ drop i l) (sym m)
+            ∙ e,
       )
 
   -- the last one
-  pub last : n < 10 → 0 < i → drop (i - 1) (set l (i - 1) (n + 48)) ≡ w
+  pub last : n / 10 ≡ 0 → 0 < i → drop (i - 1) (set l (i - 1) (48 + n % 10)) ≡ w
   last t u =
-      let m : decimal n ≡ digit n = decimal_digit n t in
+      let m : decimal n ≡ digit n = decimal_digit n (omega arith) in
       let j : suc (i - 1) ≡ i = omega arith in
-      let v : n + 48 ≡ 48 + n = omega arith in
-      store l (i - 1) (n + 48) (omega arith) ∙ rw (j, v) (ap (λ (x : Bytes). x ++ drop i l) (sym m)) ∙ e
+      let v : n % 10 ≡ n = omega arith in
+      store l (i - 1) (48 + n % 10) (omega arith) ∙ rw (j, v) (ap (λ (x : Bytes). x ++ drop i l) (sym m)) ∙ e

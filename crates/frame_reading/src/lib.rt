@@ -1,18 +1,32 @@
 // Reading a frame: the size number, then header and body, each refusal in document 01's order.
 #![tactic(auto)]
 
-ghost use Rattle.std.specs.Prelude.{◌≡◌};
+ghost use Rattle.std.specs.Prelude.{◌≡◌, length};
 ghost use Rattle.frames.specs.Codes.{required};
 ghost use Rattle.frames.specs.Keys.{empty_frame};
 ghost use Rattle.frames.specs.Limits.{held_depth};
 ghost use Rattle.frames.specs.Maps.{entries_at};
 ghost use Rattle.frames.specs.Reading.{refuse_at, refuse, by_places, by_entries, in_frame, size_of, frame_read};
-ghost use Rattle.frame_tables.specs.Tables.{table, tabled_on, place_in};
-ghost use Rattle.frame_reading.specs.Steps.{body_at, entries_in};
+ghost use Rattle.frame_tables.specs.Tables.{place_in};
+ghost use Rattle.frame_reading.specs.Steps.{answer_of, whole_at, entries_in};
 
-use frames::{Frame, FrameAnswer, Place, Size};
+use frame_tables::{KEYS, NO_VALUE, Untabled, Value};
+use frames::{Frame, FrameAnswer, Size};
 use msgpack_scalars::NoNumber;
-use msgpack_values::OptionalNumber;
+use msgpack_values::{NO_PLACE, OptionalNumber};
+
+// Why the contents of a frame are refused, 4 to 10: header or body is broken, at a place; bytes follow them; header or body is no map,
+// or has a key twice; there is no such code; a known key holds a wrong type or range; a required key is absent.
+#[derive(Clone, Copy)]
+enum Refusal {
+    Broken(OptionalNumber),
+    Followed,
+    NoMap,
+    Twice,
+    NoCode,
+    Unsuited,
+    Absent,
+}
 
 // The size number at the front of `s`: 2, 1 and 3.
 pub fn read_size(s: &[u8]) -> Size
@@ -36,34 +50,7 @@ pub fn read_size(s: &[u8]) -> Size
 pub fn empty_frame() -> Frame
     ensures { result ≡ empty_frame }
 {
-    let number = OptionalNumber {
-        present: false,
-        value: 0,
-    };
-    let place = Place {
-        present: false,
-        start: 0,
-        length: 0,
-    };
-    Frame {
-        code: 0,
-        sync: number,
-        schema_version: number,
-        space: number,
-        index: number,
-        limit: number,
-        offset: number,
-        iterator: number,
-        index_base: number,
-        key: place,
-        tuple: place,
-        function: place,
-        user: place,
-        expression: place,
-        ops: place,
-        data: place,
-        error: place,
-    }
+    frames::EMPTY_FRAME
 }
 
 fn refused_at(number: u32, place: OptionalNumber) -> FrameAnswer
@@ -80,112 +67,97 @@ fn refused_at(number: u32, place: OptionalNumber) -> FrameAnswer
 pub fn refused(number: u32) -> FrameAnswer
     ensures { result ≡ refuse number }
 {
-    refused_at(number, msgpack_values::NO_PLACE)
+    refused_at(number, NO_PLACE)
+}
+
+// What C is told of the contents of `length` bytes.
+fn answer_of(length: usize, read: Result<Frame, Refusal>) -> FrameAnswer
+    ensures { result ≡ answer_of length read }
+{
+    match read {
+        Ok(frame) => FrameAnswer {
+            number: 0,
+            length,
+            frame,
+            place: NO_PLACE,
+        },
+        Err(Refusal::Broken(place)) => refused_at(4, place),
+        Err(Refusal::Followed) => refused(5),
+        Err(Refusal::NoMap) => refused(6),
+        Err(Refusal::Twice) => refused(7),
+        Err(Refusal::NoCode) => refused(8),
+        Err(Refusal::Unsuited) => refused(9),
+        Err(Refusal::Absent) => refused(10),
+    }
 }
 
 // 8 to 10, by where each key's value stands in the header and in the body.
-fn by_places(
-    s: &[u8],
-    header_starts: &[usize],
-    header_lengths: &[usize],
-    starts: &[usize],
-    lengths: &[usize],
-) -> FrameAnswer
-    ensures { result ≡ by_places required s.now (place_in header_starts.now header_lengths.now) (place_in starts.now lengths.now) }
+fn by_places(s: &[u8], header: &[Value], body: &[Value]) -> Result<Frame, Refusal>
+    ensures { answer_of (length s.now) result ≡ by_places required s.now (place_in header.now) (place_in body.now) }
 {
-    let code = frame_fields::number_in(s, header_starts, header_lengths, 0x00);
+    let code = frame_fields::number_in(s, header, 0x00);
     if !code.present {
-        return refused(8);
+        return Err(Refusal::NoCode);
     }
-    let needs = frame_rules::needs_of(code.value);
-    if !needs.known {
-        return refused(8);
-    }
-    let suited = frame_suits::header_suits(s, header_starts, header_lengths)
-        & frame_suits::body_suits(s, starts, lengths);
-    if !suited {
-        return refused(9);
-    }
-    let keys = needs.keys;
-    let count = needs.count;
-    if !frame_fields::all_there(starts, lengths, &keys[..count]) {
-        return refused(10);
-    }
-    let frame = frame_fields::frame_of(
-        code.value,
-        s,
-        header_starts,
-        header_lengths,
-        starts,
-        lengths,
-    );
-    FrameAnswer {
-        number: 0,
-        length: s.len(),
-        frame,
-        place: msgpack_values::NO_PLACE,
-    }
-}
-
-fn body_at(s: &[u8], at: usize) -> Option<usize>
-    ensures { result ≡ body_at s.now at }
-{
-    if at < s.len() {
-        Some(at)
-    } else {
-        None
-    }
-}
-
-// `table_at` of the body; a missing one lays nothing.
-fn body_table(s: &[u8], body: Option<usize>, starts: &mut [usize; 128], lengths: &mut [usize; 128]) -> u32
-    ensures { table result starts.new lengths.new
-        ≡ tabled_on (table 0 starts.old lengths.old) (entries_in s.now body) }
-{
-    let Some(from) = body else {
-        return 0;
+    let Some(keys) = frame_rules::needs_of(code.value) else {
+        return Err(Refusal::NoCode);
     };
-    frame_tables::table_at(s, from, starts, lengths)
+    let suited = frame_suits::header_suits(s, header) & frame_suits::body_suits(s, body);
+    if !suited {
+        return Err(Refusal::Unsuited);
+    }
+    if !frame_fields::all_there(body, keys) {
+        return Err(Refusal::Absent);
+    }
+    Ok(frame_fields::frame_of(code.value, s, header, body))
 }
 
-// 6 to 10: 6 and 7 over the header and then the body. The tables are made here alone, and lent.
-fn judge(s: &[u8], at: usize, body: Option<usize>) -> FrameAnswer
-    ensures { result ≡ by_entries s.now (entries_at held_depth s.now at) (entries_in s.now body) }
+// 6 to 10: 6 and 7 over the header and then the body; a missing body counts as an empty map. The tables are made here alone, and lent.
+fn judge(s: &[u8], at: usize, body_at: Option<usize>) -> Result<Frame, Refusal>
+    ensures { answer_of (length s.now) result ≡ by_entries s.now (entries_at held_depth s.now at) (entries_in s.now body_at) }
 {
-    let mut header_starts = [0usize; 128];
-    let mut header_lengths = [0usize; 128];
-    let mut starts = [0usize; 128];
-    let mut lengths = [0usize; 128];
-    let header_number = frame_tables::table_at(s, at, &mut header_starts, &mut header_lengths);
-    let number = body_table(s, body, &mut starts, &mut lengths);
-    if (header_number == 6) | (number == 6) {
-        return refused(6);
+    let mut header = [NO_VALUE; KEYS];
+    let mut body = [NO_VALUE; KEYS];
+    let header_tabled = frame_tables::table_at(s, at, &mut header);
+    let body_tabled = match body_at {
+        Some(from) => frame_tables::table_at(s, from, &mut body),
+        None => Ok(()),
+    };
+    match (header_tabled, body_tabled) {
+        (Err(Untabled::NoMap), _) => Err(Refusal::NoMap),
+        (_, Err(Untabled::NoMap)) => Err(Refusal::NoMap),
+        (Ok(()), Ok(())) => by_places(s, &header, &body),
+        _ => Err(Refusal::Twice),
     }
-    if (header_number == 7) | (number == 7) {
-        return refused(7);
-    }
-    by_places(s, &header_starts, &header_lengths, &starts, &lengths)
+}
+
+// The end of the value at `at`; 4 where it is broken.
+fn whole_at(s: &[u8], at: usize) -> Result<usize, Refusal>
+    ensures { result ≡ whole_at s.now at }
+{
+    let read = msgpack_values::read_value(s, at, frames::MAX_DEPTH);
+    read.map_err(|_| Refusal::Broken(msgpack_values::place_of(read)))
 }
 
 // 4 to 10: `s` is one frame and nothing more, its header at `at`.
+fn contents_of(s: &[u8], at: usize) -> Result<Frame, Refusal>
+    ensures { answer_of (length s.now) result ≡ in_frame s.now at }
+{
+    let end = whole_at(s, at)?;
+    if s.len() <= end {
+        return judge(s, at, None);
+    }
+    let last = whole_at(s, end)?;
+    if last < s.len() {
+        return Err(Refusal::Followed);
+    }
+    judge(s, at, Some(end))
+}
+
 pub fn read_contents(s: &[u8], at: usize) -> FrameAnswer
     ensures { result ≡ in_frame s.now at }
 {
-    let header = msgpack_values::read_value(s, at, frames::MAX_DEPTH);
-    let Ok(end) = header else {
-        return refused_at(4, msgpack_values::place_of(header));
-    };
-    let Some(from) = body_at(s, end) else {
-        return judge(s, at, None);
-    };
-    let body = msgpack_values::read_value(s, from, frames::MAX_DEPTH);
-    let Ok(last) = body else {
-        return refused_at(4, msgpack_values::place_of(body));
-    };
-    if last < s.len() {
-        return refused(5);
-    }
-    judge(s, at, Some(from))
+    answer_of(s.len(), contents_of(s, at))
 }
 
 // The first frame of `s`; what follows it is not judged.

@@ -14,8 +14,7 @@ use Rattle.frames.specs.Codes.{codes, among, is_error, required}
 use Rattle.frames.specs.Keys.{all_lines}
 use Rattle.frames.specs.Limits.{known_keys}
 use Rattle.msgpack_first_bytes.proofs.Logic.{impossible}
-use Rattle.frame_rules.specs.Needs.{needs_for, needs_of, line_at, no_line}
-use Rattle.frame_rules.specs.declared.Needs.{Needs}
+use Rattle.frame_rules.specs.Needs.{line_at, no_line}
 
 -- ---- 8 and 10
 
@@ -51,32 +50,6 @@ unknown_code c e ((((((((((((_, n0), n1), n2), n3), n4), n5), n6), n7), n8), n9)
       ne_eqb c 0x40 np,
       ne_eqb c 0x00 n0,
     )
-
--- what the answer says of the definition
-module _ (c : ℕ) {n : Needs} (e : n ≡ needs_of c) where
-  pub code_unknown : n.known ≡ false → required c ≡ none
-  unfolding needs_of needs_for
-  code_unknown h = go (required c) e
-    where
-      go : (o : Option (List ℕ)) → n ≡ needs_for o → o ≡ none
-      go none q = refl
-      go (some ks) q = impossible (let z = sym h ∙ ap (λ (x : Needs). x.known) q in cc)
-
-  pub code_known : n.known ≡ true → required c ≡ some (take n.count n.keys)
-  unfolding needs_of needs_for
-  code_known h = go (required c) e
-    where
-      go : (o : Option (List ℕ)) → n ≡ needs_for o → o ≡ some (take n.count n.keys)
-      go none q = impossible (let z = sym h ∙ ap (λ (x : Needs). x.known) q in cc)
-      go (some ks) q = rw q (ap some (sym (take-append_seam ks _)))
-
-  pub keys-fit : n.count ≤ length n.keys
-  unfolding needs_of needs_for
-  keys-fit = go (required c) e
-    where
-      go : (o : Option (List ℕ)) → n ≡ needs_for o → n.count ≤ length n.keys
-      go none q = rw q (omega arith)
-      go (some ks) q = rw q (simp length-append (omega arith))
 
 -- ---- 9
 

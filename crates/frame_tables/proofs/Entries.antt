@@ -4,14 +4,11 @@ use mathlib.Core.Path.{◌≡◌, refl, subst, ap}
 use mathlib.Core.List.{List, [], ◌∷◌}
 use mathlib.Core.Bool.{Bool, true, false}
 use mathlib.Core.Option.{Option, none, some}
-use mathlib.Core.Logic.{⊎_elim}
 use Prim.Native.Nat.{ℕ, zero, suc, ◌+◌, ◌-◌, ◌<◌, ◌≤◌}
 use native.Mathlib.Omega.{arith}
 use borrow.Author.Tests.{le-leb, lt-leb, leb-true}
 use lib.Dec.{leb}
 use lib.ListN.{length, drop, length-drop}
-use types.Run.{OneOf}
-use denote.Enum.Declared.{tag_of}
 use Rattle.msgpack_first_bytes.specs.Bytes.{Bytes}
 use Rattle.msgpack_first_bytes.proofs.Logic.{impossible}
 use Rattle.msgpack_values.specs.Value.{shift, value, Read}
@@ -19,31 +16,33 @@ use Rattle.msgpack_values.proofs.Local.{value_good, value_pos}
 use Rattle.msgpack_scalars.specs.Integer.{unsigned, shift_natural, Natural}
 use Rattle.msgpack_scalars.specs.Start.{map_by}
 use Rattle.msgpack_scalars.specs.Header.{header, shift_header, Header}
-use Rattle.msgpack_scalars.specs.contracts.Natural as natural-type
+use Rattle.msgpack_scalars.specs.declared.NoNumber.{NoNumber}
 use Rattle.frames.specs.Limits.{held_depth, max_key}
 use Rattle.frames.specs.Maps.{Entry, entry, keyed, entry_at, entries, entries_by, entries_at}
 use Rattle.frames.specs.Cascade.{check, given, whole}
-use Rattle.frame_tables.specs.Tables.{step_of}
-use Rattle.msgpack_scalars.specs.declared.NoNumber.TheVariants.{Cut, Other}
+use Rattle.frame_tables.specs.declared.Value.{Value}
+use Rattle.frame_tables.specs.Tables.{value_of, step_of}
 
--- the `else` of `let Natural::Is(..) = .. else`
-not_is : {A : Type 0} (at : ℕ) (u v : Natural) (next : ℕ → ℕ → Option A) → u ≡ shift_natural at v → OneOf (1 ∷ 2 ∷ []) (tag_of natural-type.the_type u) → keyed v next ≡ none
+abbrev pub laid_at : ℕ → ℕ → Value
+laid_at a n = record { start = a; length = n }
+
+-- no number of the place
+not_found : {A : Type 0} (at : ℕ) (e : NoNumber) (v : Natural) (next : ℕ → ℕ → Option A) → Err e ≡ shift_natural at v → keyed v next ≡ none
 unfolding keyed
-not_is at u (Err Cut) next e o = refl
-not_is at u (Err Other) next e o = refl
-not_is at u (Ok (k, l)) next e o = absurd (⊎_elim (λ z. omega arith) (λ z. omega arith) (subst (λ (u : Natural). OneOf (1 ∷ 2 ∷ []) (tag_of natural-type.the_type u)) e o))
+not_found at e (Ok (k, l)) next q = impossible cc
+not_found at e (Err d) next q = refl
 
 -- a number of the place, by the answer counted from the front
 found : (at k e : ℕ) (v : Natural) → Ok (k, e) ≡ shift_natural at v → (l : ℕ) × (v ≡ Ok (k, l)) × (e ≡ at + l)
-found at k e (Ok (j, l)) q = let z : k ≡ j = cc in (l, rw z, cc)
-found at k e (Err Cut) q = impossible cc
-found at k e (Err Other) q = impossible cc
+found at k e (Ok (j, l)) q =
+    let p : ◌≡◌ {A = ℕ × ℕ} (k, e) (j, at + l) = cc in
+    (l, rw (ap (λ (x : ℕ × ℕ). x.0) p), ap (λ (x : ℕ × ℕ). x.1) p)
+found at k e (Err d) q = impossible cc
 
 module _ (s : Bytes) (at : ℕ) where
-  pub no_number : (u : Natural) → u ≡ shift_natural at (unsigned (drop at s)) → OneOf (1 ∷ 2 ∷ []) (tag_of natural-type.the_type u)
-      → None ≡ step_of (entry_at held_depth s at)
+  pub no_number : (e : NoNumber) → Err e ≡ shift_natural at (unsigned (drop at s)) → None ≡ step_of (entry_at held_depth s at)
   unfolding entry_at step_of
-  no_number u e o = rw (not_is at u (unsigned (drop at s)) _ e o)
+  no_number e q = rw (not_found at e (unsigned (drop at s)) _ q)
 
   module _ (k a : ℕ) (q : Ok (k, a) ≡ shift_natural at (unsigned (drop at s))) where
     pub large_key : max_key < k → None ≡ step_of (entry_at held_depth s at)
@@ -64,12 +63,12 @@ module _ (s : Bytes) (at : ℕ) where
         go (Ok m) e = impossible cc
         go (Err m) e = refl
 
-    pub one_entry : (end : ℕ) → k ≤ max_key → Ok end ≡ shift a (value held_depth (drop a s)) → Some (k, a, end - a) ≡ step_of (entry_at held_depth s at)
+    pub one_entry : (end : ℕ) → k ≤ max_key → Ok end ≡ shift a (value held_depth (drop a s)) → Some (k, laid_at a (end - a)) ≡ step_of (entry_at held_depth s at)
     unfolding step_of whole
     one_entry end h e = rw (keyed-value h) (go (value held_depth (drop a s)) e)
       where
-        go : (r : Read) → Ok end ≡ shift a r → Some (k, a, end - a) ≡ step_of (whole none r (λ m. some (entry k a m)))
-        go (Ok m) e = let z : end ≡ a + m = cc in ap (λ a. Some (k, a, a)) (omega arith)
+        go : (r : Read) → Ok end ≡ shift a r → Some (k, laid_at a (end - a)) ≡ step_of (whole none r (λ m. some (entry k a m)))
+        go (Ok m) e = let z : end ≡ a + m = cc in ap (λ (n : ℕ). Some (k, laid_at a n)) (omega arith)
         go (Err m) e = impossible cc
 
 pub ends_after : (s : Bytes) (a end : ℕ) → Ok end ≡ shift a (value held_depth (drop a s)) → a ≤ end
@@ -86,14 +85,12 @@ unfolding step_of
 step-none none e = refl
 step-none (some x) e = impossible cc
 
-pub step_some : (o : Option Entry) (k a m : ℕ) → Some (k, a, m) ≡ step_of o → o ≡ some (entry k a m)
+pub step_some : (o : Option Entry) (k : ℕ) (v : Value) → Some (k, v) ≡ step_of o → o ≡ some (entry k v.start v.length)
 unfolding step_of
-step_some none k a m e = impossible cc
-step_some (some x) k a m e =
-    let p : k ≡ x.key = cc in
-    let q : a ≡ x.start = cc in
-    let r : m ≡ x.length = cc in
-    rw (p, q, r)
+step_some none k v e = impossible cc
+step_some (some x) k v e =
+    let p : ◌≡◌ {A = ℕ × Value} (k, v) (x.key, value_of x) = cc in
+    rw (ap (λ (y : ℕ × Value). y.0) p, ap (λ (y : ℕ × Value). y.1.start) p, ap (λ (y : ℕ × Value). y.1.length) p)
 
 -- an entry that a table of 128 can hold, and that ends within the bytes
 pub record Fits (s : Bytes) (e : Entry) : Type 0 where
@@ -119,8 +116,7 @@ entry-fits d s at e q = by_key (unsigned (drop at s)) q
 
     by_key : (u : Natural) → keyed u (λ k l. whole none (value d (drop (at + l) s)) (λ m. some (entry k (at + l) m))) ≡ some e → Fits s e
     by_key (Ok (k, l)) q = by_test k (at + l) (leb k max_key) refl q
-    by_key (Err Cut) q = impossible cc
-    by_key (Err Other) q = impossible cc
+    by_key (Err e) q = impossible cc
 
 -- each of a map's entries is one
 pub data AllFit (s : Bytes) : List Entry → Type 0 where
@@ -157,7 +153,9 @@ module _ (d : ℕ) (s : Bytes) (at : ℕ) where
   a-map n from e = go (header map_by (drop at s)) e
     where
       go : (h : Header) → Some (n, from) ≡ shift_header at h → entries_by d s at h ≡ entries d s n from
-      go (Some (m, l)) e = let p : n ≡ m = cc in let q : from ≡ at + l = cc in rw (p, q)
+      go (Some (m, l)) e =
+          let p : ◌≡◌ {A = ℕ × ℕ} (n, from) (m, at + l) = cc in
+          rw (ap (λ (x : ℕ × ℕ). x.0) p, ap (λ (x : ℕ × ℕ). x.1) p)
       go None e = impossible cc
 
   pub all_fit : (es : List Entry) → entries_at d s at ≡ some es → AllFit s es

@@ -13,20 +13,19 @@ use Rattle.msgpack_first_bytes.specs.Bytes.{Bytes, pick}
 use Rattle.frames.specs.declared.Place.{Place}
 use Rattle.frames.specs.Keys.{nowhere}
 use Rattle.frames.specs.Maps.{Entry, keys, has, distinct, placed, find}
-use Rattle.frame_tables.specs.Tables.{Table, empty_table, laid, laid_all, tabled_on, tabled, place_in}
+use Rattle.frame_tables.specs.Tables.{no_value, value_of, Table, empty_table, laid, laid_all, tabled_on, tabled, place_in}
 use Rattle.frame_tables.proofs.Entries.{Fits, AllFit, nil, more}
 use Rattle.frame_tables.proofs.Tables.{laid_new, laid_twice}
 
 -- a key has no place yet
 abbrev free : Table → ℕ → Bool
-free t k = eqb (get_or t.lengths k 0) 0
+free t k = eqb (get_or t.values k no_value).length 0
 
-pub record Room (t : Table) : Type 0 where
-  pub starts : length t.starts ≡ 128
-  pub lengths : length t.lengths ≡ 128
+abbrev pub Room : Table → Type 0
+Room t = length t.values ≡ 128
 
 abbrev pub place_of : Table → ℕ → Place
-place_of t k = place_in t.starts t.lengths k
+place_of t k = place_in t.values k
 
 -- ---- one entry more
 
@@ -34,8 +33,8 @@ laid-room : (e : Entry) (t : Table) → Room t → Room (laid e t)
 laid-room e t r = go (free t e.key) refl
   where
     go : (b : Bool) → free t e.key ≡ b → Room (laid e t)
-    go true q = rw (laid_new e t (eqb-true _ 0 q)) (record { starts = rw length-set r.starts; lengths = rw length-set r.lengths })
-    go false q = rw (laid_twice e t (eqb-false _ 0 q)) (record { starts = r.starts; lengths = r.lengths })
+    go true q = rw (laid_new e t (eqb-true _ 0 q)) (rw length-set r)
+    go false q = rw (laid_twice e t (eqb-false _ 0 q)) r
 
 module _ {s : Bytes} (e : Entry) (t : Table) (f : Fits s e) (r : Room t) where
   laid-number : (laid e t).number ≡ pick (free t e.key) t.number 7
@@ -65,18 +64,16 @@ module _ {s : Bytes} (e : Entry) (t : Table) (f : Fits s e) (r : Room t) where
           let z : k ≡ e.key = eqb-true k e.key q in
           let w = f.low in
           let m = f.long in
-          let a = get_or-set_same t.starts e.key e.start 0 (let g = r.starts in omega arith) in
-          let b = get_or-set_same t.lengths e.key e.length 0 (let g = r.lengths in omega arith) in
+          let a = get_or-set_same t.values e.key (value_of e) no_value (omega arith) in
           let d : eqb e.length 0 ≡ false = ne_eqb e.length 0 (λ x. omega arith) in
-          rw (laid_new e t (eqb-true _ 0 p), z, p, b, a, d) (refl, refl)
+          rw (laid_new e t (eqb-true _ 0 p), z, p, a, d) (refl, refl)
       go false p true q =
           let z : k ≡ e.key = eqb-true k e.key q in
           rw (laid_twice e t (eqb-false _ 0 p), z, p) (refl, refl)
       go true p false q =
           let n = eqb-false k e.key q in
-          let a = get_or-set_other t.starts e.key k e.start 0 n in
-          let b = get_or-set_other t.lengths e.key k e.length 0 n in
-          rw (laid_new e t (eqb-true _ 0 p), b, a) (pass (free t k), stay (free t k) _ _)
+          let a = get_or-set_other t.values e.key k (value_of e) no_value n in
+          rw (laid_new e t (eqb-true _ 0 p), a) (pass (free t k), stay (free t k) _ _)
       go false p false q = rw (laid_twice e t (eqb-false _ 0 p)) (pass (free t k), stay (free t k) _ _)
 
 -- ---- all entries
@@ -145,7 +142,7 @@ all-number (more {e = e} {es = es} f fs) t r =
 
 -- ---- from the empty table
 
-empty_slot : (n k : ℕ) → get_or {A = ℕ} (replicate n 0) k 0 ≡ 0
+empty_slot : (n k : ℕ) → get_or (replicate n no_value) k no_value ≡ no_value
 empty_slot zero k = refl
 empty_slot (suc n) zero = refl
 empty_slot (suc n) (suc k) = empty_slot n k
@@ -156,7 +153,7 @@ empty_free k = rw (empty_slot 128 k)
 
 empty_room : (n : ℕ) → Room (empty_table n)
 unfolding empty_table
-empty_room n = record { starts = refl; lengths = refl }
+empty_room n = refl
 
 all_room : (es : List Entry) (t : Table) → Room t → Room (laid_all es t)
 unfolding laid_all

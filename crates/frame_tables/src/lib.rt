@@ -1,17 +1,40 @@
 // A map of a frame into a table: one pass, after which each key is a look-up.
 #![tactic(auto)]
 
-ghost use Rattle.std.specs.Prelude.{◌≡◌, get_or};
-ghost use Rattle.frames.specs.Keys.{nowhere};
+ghost use Rattle.std.specs.Prelude.{◌≡◌};
 ghost use Rattle.frames.specs.Limits.{held_depth};
 ghost use Rattle.frames.specs.Maps.{entry_at, entries, entries_at};
-ghost use Rattle.frame_tables.specs.Tables.{table, step_of, empty_table, tabled_on, place_in};
+ghost use Rattle.frame_tables.specs.Tables.{table, number_of, step_of, empty_table, tabled_on, place_in};
 
 use frames::Place;
 use msgpack_scalars::Opening;
 
+// Where a key's value starts, and its length: 0 where the key is absent, since a value has one byte at least.
+#[derive(Clone, Copy)]
+pub struct Value {
+    pub start: usize,
+    pub length: usize,
+}
+
+pub const NO_VALUE: Value = Value {
+    start: 0,
+    length: 0,
+};
+
+// One for each key that there may be: 0 to `frames::MAX_KEY`.
+pub const KEYS: usize = 128;
+
+pub type Table = [Value; KEYS];
+
+// Why a value makes no table: it is no map, or a key no number below 128 (6); a key stands twice (7).
+#[derive(Clone, Copy)]
+pub enum Untabled {
+    NoMap,
+    Twice,
+}
+
 // The entry at `at`.
-fn entry_at(s: &[u8], at: usize) -> Option<(usize, usize, usize)>
+fn entry_at(s: &[u8], at: usize) -> Option<(usize, Value)>
     ensures { result ≡ step_of (entry_at held_depth s.now at) }
 {
     let Ok((key, start)) = msgpack_scalars::unsigned_at(s, at) else {
@@ -23,92 +46,60 @@ fn entry_at(s: &[u8], at: usize) -> Option<(usize, usize, usize)>
     let Ok(end) = msgpack_values::read_value(s, start, frames::HELD_DEPTH) else {
         return None;
     };
-    Some((key as usize, start, end - start))
+    let length = end - start;
+    Some((key as usize, Value { start, length }))
 }
 
-// 6, and the table emptied: what was laid before says nothing then.
-fn no_table(starts: &mut [usize; 128], lengths: &mut [usize; 128]) -> u32
-    ensures { table result starts.new lengths.new ≡ empty_table 6 }
+// The table emptied: what was laid before says nothing then.
+fn no_table(values: &mut Table) -> Result<(), Untabled>
+    ensures { table (number_of result) values.new ≡ empty_table 6 }
 {
-    *starts = [0usize; 128];
-    *lengths = [0usize; 128];
-    6
+    *values = [NO_VALUE; KEYS];
+    Err(Untabled::NoMap)
 }
 
 // `count` entries from `from` on. It goes on after a key that stood before, since 6 beats 7.
-fn table_of(
-    s: &[u8],
-    count: usize,
-    from: usize,
-    starts: &mut [usize; 128],
-    lengths: &mut [usize; 128],
-) -> u32
-    ensures { table result starts.new lengths.new
-        ≡ tabled_on (table 0 starts.old lengths.old) (entries held_depth s.now count from) }
+fn table_of(s: &[u8], count: usize, from: usize, values: &mut Table) -> Result<(), Untabled>
+    ensures { table (number_of result) values.new
+        ≡ tabled_on (table 0 values.old) (entries held_depth s.now count from) }
 {
-    let mut number: u32 = 0;
+    let mut answer = Ok(());
     let mut at = from;
-    let mut left = count;
-    while 0 < left {
-        let Some((key, start, length)) = entry_at(s, at) else {
-            return no_table(starts, lengths);
+    for _ in 0..count {
+        let Some((key, value)) = entry_at(s, at) else {
+            return no_table(values);
         };
-        if lengths[key] == 0 {
-            starts[key] = start;
-            lengths[key] = length;
+        if values[key].length == 0 {
+            values[key] = value;
         } else {
-            number = 7;
+            answer = Err(Untabled::Twice);
         }
-        at = start + length;
-        left -= 1;
+        at = value.start + value.length;
     }
-    number
+    answer
 }
 
-// The value at `at` laid into a table, lent all 0: where each key's value starts, and its length,
-// which stays 0 where the key is absent. The answer is 6 where the value is no map or a key no
-// number below 128, 7 where a key stands twice, else 0.
-pub fn table_at(s: &[u8], at: usize, starts: &mut [usize; 128], lengths: &mut [usize; 128]) -> u32
-    ensures { table result starts.new lengths.new
-        ≡ tabled_on (table 0 starts.old lengths.old) (entries_at held_depth s.now at) }
+// The map at `at` laid into a table that is lent empty.
+pub fn table_at(s: &[u8], at: usize, values: &mut Table) -> Result<(), Untabled>
+    ensures { table (number_of result) values.new
+        ≡ tabled_on (table 0 values.old) (entries_at held_depth s.now at) }
 {
-    match msgpack_scalars::header_at(s, at, Opening::Map) {
-        Some((count, from)) => table_of(s, count, from, starts, lengths),
-        None => no_table(starts, lengths),
-    }
+    let Some((count, from)) = msgpack_scalars::header_at(s, at, Opening::Map) else {
+        return no_table(values);
+    };
+    table_of(s, count, from, values)
 }
 
-fn absent() -> Place
-    ensures { result ≡ nowhere }
+// Where a table says that a key's value stands; a key past its end is absent.
+pub fn place_in(values: &[Value], key: usize) -> Place
+    ensures { result ≡ place_in values.now key }
 {
-    Place {
-        present: false,
-        start: 0,
-        length: 0,
-    }
-}
-
-// 0 past the end, so that every key has an answer.
-fn number_under(list: &[usize], key: usize) -> usize
-    ensures { result ≡ get_or list.now key 0 }
-{
-    if list.len() <= key {
-        return 0;
-    }
-    list[key]
-}
-
-// Where a table says that a key's value stands.
-pub fn place_in(starts: &[usize], lengths: &[usize], key: usize) -> Place
-    ensures { result ≡ place_in starts.now lengths.now key }
-{
-    let length = number_under(lengths, key);
-    if length == 0 {
-        return absent();
-    }
-    Place {
-        present: true,
-        start: number_under(starts, key),
-        length,
+    match values.get(key) {
+        Some(value) if value.length > 0 => Place {
+            present: true,
+            start: value.start,
+            length: value.length,
+        },
+        _ => frames::NOWHERE,
     }
 }

@@ -1,8 +1,11 @@
 -- What the caller sees, for each way that the judgement ends. Assumes nothing.
-use mathlib.Core.Path.{◌≡◌, ap₂, ◌∙◌}
+use mathlib.Core.Path.{◌≡◌, refl, ap₂, ◌∙◌}
 use mathlib.Core.Bool.{Bool, true, false, ◌&&◌}
 use mathlib.Core.List.{List, ◌++◌}
-use mathlib.Core.Option.{none, some}
+use mathlib.Core.Option.{Option, none, some}
+use Rattle.std.specs.Prelude.{Some, None}
+use Rattle.msgpack_first_bytes.proofs.Logic.{impossible}
+use Rattle.frame_rules.specs.Needs.{answer, needs_of}
 use Prim.Native.Nat.{ℕ, ◌+◌, ◌<◌, ◌≤◌}
 use native.Mathlib.Omega.{arith}
 use borrow.Author.Tests.{le-leb, lt-leb}
@@ -20,6 +23,23 @@ use Rattle.frames.specs.Cascade.{check, given}
 use Rattle.frames.specs.Writing.{contents, frame_form, sound, each, write_items, frame_write, Call, call_of, frame_write_call}
 use Rattle.frame_items.specs.Content.{capped}
 use Rattle.frame_judging.proofs.Lengths.{capped-within, capped_past}
+
+-- what the answer says of the definition
+pub code_unknown : (c : ℕ) → None ≡ needs_of c → required c ≡ none
+unfolding needs_of answer
+code_unknown c = go (required c)
+  where
+    go : (o : Option (List ℕ)) → None ≡ answer o → o ≡ none
+    go none e = refl
+    go (some ks) e = impossible (cc)
+
+pub code_known : (c : ℕ) (keys : List ℕ) → Some keys ≡ needs_of c → required c ≡ some keys
+unfolding needs_of answer
+code_known c keys = go (required c)
+  where
+    go : (o : Option (List ℕ)) → Some keys ≡ answer o → o ≡ some keys
+    go none e = impossible (cc)
+    go (some ks) e = let q : keys ≡ ks = cc in rw q
 
 -- nothing written
 abbrev pub unwritten : ℕ → Bytes → Call

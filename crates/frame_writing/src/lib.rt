@@ -10,10 +10,22 @@ ghost use Rattle.msgpack_writing.specs.Forms.{unsigned_form};
 ghost use Rattle.msgpack_writing.specs.Put.{put, next};
 ghost use Rattle.frame_items.specs.Content.{held_of};
 ghost use Rattle.frame_judging.specs.Parts.{items_between, pair_bytes, pair_of};
-ghost use Rattle.frame_writing.specs.Answer.{refusal};
+ghost use Rattle.frame_writing.specs.Answer.{written_of, call};
 
-use frame_items::Content;
+use frame_items::{Content, KnownKey};
 use frames::{Frame, HEADER_KEYS, KNOWN_KEYS, MAX_SIZE, Written};
+
+// Why a record is not written: there is no such code; a value is broken, or of a wrong type or range; a required key is absent;
+// the frame is too long; `out` has no room for it.
+#[derive(Clone, Copy)]
+enum Refusal {
+    NoCode,
+    Broken,
+    Unsuited,
+    Absent,
+    TooLong,
+    NoRoom,
+}
 
 // A key below 128 is one byte; what it holds follows.
 fn put_number(out: &mut [u8], at: usize, key: u8, n: u64) -> usize
@@ -41,8 +53,7 @@ fn put_pair(out: &mut [u8], at: usize, key: u8, content: Content, bytes: &[u8]) 
         × (out.new ≡ put at (pair_of key (encoded (held_of bytes.now content))) out.old) }
 {
     match content {
-        Content::Absent => at,
-        Content::Outside => at,
+        Content::Absent | Content::Outside => at,
         Content::Number(n) => put_number(out, at, key, n),
         Content::View(place) => put_view(out, at, key, frame_fields::view_of(bytes, place)),
     }
@@ -55,12 +66,9 @@ fn put_pairs(out: &mut [u8], at: usize, frame: Frame, bytes: &[u8], from: usize,
         × (out.new ≡ put at (pair_bytes (items_between from to frame bytes.now)) out.old) }
 {
     let mut a = at;
-    let mut i = from;
-    while i < to {
-        let known = frame_keys::known_key(frame, bytes, i);
-        let content = known.content;
-        a = put_pair(out, a, known.key, content, bytes);
-        i += 1;
+    for i in from..to {
+        let KnownKey { key, content, .. } = frame_keys::known_key(frame, bytes, i);
+        a = put_pair(out, a, key, content, bytes);
     }
     a
 }
@@ -104,10 +112,51 @@ fn put_frame(
     put_map(out, b, frame, bytes, HEADER_KEYS, KNOWN_KEYS, body)
 }
 
-fn refused(number: u32) -> Written
-    ensures { result ≡ refusal number }
+// What C is told of a call.
+fn written_of(call: Result<usize, Refusal>) -> Written
+    ensures { result ≡ written_of call }
 {
+    let number = match call {
+        Ok(length) => return Written { number: 0, length },
+        Err(Refusal::NoCode) => 8,
+        Err(Refusal::Broken) => 4,
+        Err(Refusal::Unsuited) => 9,
+        Err(Refusal::Absent) => 10,
+        Err(Refusal::TooLong) => 3,
+        Err(Refusal::NoRoom) => 18,
+    };
     Written { number, length: 0 }
+}
+
+// The record's frame at the front of `out`: how long it is, or why it is not written, judged before the first byte.
+fn write_record(frame: Frame, bytes: &[u8], out: &mut [u8]) -> Result<usize, Refusal>
+    ensures { call (written_of result) out.new ≡ frame_write_call frame bytes.now out.old }
+{
+    let Some(keys) = frame_rules::needs_of(frame.code) else {
+        return Err(Refusal::NoCode);
+    };
+    let header = frame_judging::header_judged(frame, bytes);
+    let body = frame_judging::body_judged(frame, bytes);
+    let there = frame_judging::holds_all(frame, bytes, keys);
+    let size = frame_judging::contents_length(header.length, body.length);
+    let sound = header.sound & body.sound;
+    let suited = header.suited & body.suited;
+    if !sound {
+        return Err(Refusal::Broken);
+    }
+    if !suited {
+        return Err(Refusal::Unsuited);
+    }
+    if !there {
+        return Err(Refusal::Absent);
+    }
+    if MAX_SIZE < size {
+        return Err(Refusal::TooLong);
+    }
+    if out.len() < size + 5 {
+        return Err(Refusal::NoRoom);
+    }
+    Ok(put_frame(out, frame, bytes, size, header.count, body.count))
 }
 
 // The record's frame at the front of `out`, its values copied from `bytes`: 8, 4, 9, 10, 3, 18, then the bytes.
@@ -115,33 +164,5 @@ pub fn write_frame(frame: Frame, bytes: &[u8], out: &mut [u8]) -> Written
     ensures { ◌≡◌ {A = Call} (record { number = result.number; length = result.length; buffer = out.new })
         (frame_write_call frame bytes.now out.old) }
 {
-    let needs = frame_rules::needs_of(frame.code);
-    if !needs.known {
-        return refused(8);
-    }
-    let header = frame_judging::header_judged(frame, bytes);
-    let body = frame_judging::body_judged(frame, bytes);
-    let keys = needs.keys;
-    let count = needs.count;
-    let there = frame_judging::holds_all(frame, bytes, &keys[..count]);
-    let size = frame_judging::contents_length(header.length, body.length);
-    let sound = header.sound & body.sound;
-    let suited = header.suited & body.suited;
-    if !sound {
-        return refused(4);
-    }
-    if !suited {
-        return refused(9);
-    }
-    if !there {
-        return refused(10);
-    }
-    if MAX_SIZE < size {
-        return refused(3);
-    }
-    if out.len() < size + 5 {
-        return refused(18);
-    }
-    let length = put_frame(out, frame, bytes, size, header.count, body.count);
-    Written { number: 0, length }
+    written_of(write_record(frame, bytes, out))
 }

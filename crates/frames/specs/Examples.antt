@@ -126,7 +126,7 @@ cases =
     ∷ []
 
 examples : map (λ (c : Case). (frame_read c.bytes).number) cases ≡ map (λ (c : Case). c.number) cases
-unfolding frame_read by_size size_of size_by in_frame broken body_entries body_value by_entries by_places suited accept refuse whole given check find distinct has keys entries_at entries_by entries entry_at keyed required is_error among codes empty_frame frame_at code_in optional header_items body_items number_held place_held held_at value_held number_or_bytes suits is_header number_in as_number view all value one container too_deep by_form items sized payload sum form_of same_kind unsigned unsigned_by due due_in natural_of header counted
+unfolding frame_read by_size size_of size_by in_frame broken body_entries body_value by_entries by_places suited accept refuse whole given check find distinct has keys entries_at entries_by entries entry_at keyed required is_error among codes empty_frame frame_at code_in optional header_items body_items number_held place_held held_at value_held number_or_bytes suits is_header number_in as_number view value one container too_deep by_form items sized payload sum form_of same_kind unsigned unsigned_by due due_in natural_of header counted
 examples = refl
 
 -- ---- "A frame refused with 4 gives that place, counted from the frame's start"
@@ -171,7 +171,7 @@ spoiled =
     ∷ []
 
 places : map (λ (c : Spoiled). (frame_read c.bytes).place) spoiled ≡ map (λ (c : Spoiled). c.place) spoiled
-unfolding frame_read by_size size_of size_by in_frame broken spoiled_at body_entries body_value by_entries by_places suited accept refuse whole given check find distinct has keys entries_at entries_by entries entry_at keyed required is_error among codes empty_frame frame_at code_in optional header_items body_items number_held place_held held_at value_held number_or_bytes suits is_header number_in as_number view all value one container too_deep by_form items sized payload sum form_of same_kind unsigned unsigned_by due due_in natural_of header counted
+unfolding frame_read by_size size_of size_by in_frame broken spoiled_at body_entries body_value by_entries by_places suited accept refuse whole given check find distinct has keys entries_at entries_by entries entry_at keyed required is_error among codes empty_frame frame_at code_in optional header_items body_items number_held place_held held_at value_held number_or_bytes suits is_header number_in as_number view value one container too_deep by_form items sized payload sum form_of same_kind unsigned unsigned_by due due_in natural_of header counted
 places = refl
 
 -- ---- a record read, and written with its keys rising
@@ -217,7 +217,7 @@ abbrev short_selected : Frame
 short_selected = select_of is_not is_not 5 (placed 16 2)
 
 select_read : (frame_read select ≡ accept 32 selected) × (frame_read short ≡ accept 18 short_selected)
-unfolding frame_read by_size size_of size_by in_frame broken body_entries body_value by_entries by_places suited refuse whole given check find distinct has keys entries_at entries_by entries entry_at keyed required is_error among codes empty_frame frame_at code_in optional header_items body_items number_held place_held held_at value_held number_or_bytes suits is_header number_in as_number view all value one container too_deep by_form items sized payload sum form_of same_kind unsigned unsigned_by due due_in natural_of header counted
+unfolding frame_read by_size size_of size_by in_frame broken body_entries body_value by_entries by_places suited refuse whole given check find distinct has keys entries_at entries_by entries entry_at keyed required is_error among codes empty_frame frame_at code_in optional header_items body_items number_held place_held held_at value_held number_or_bytes suits is_header number_in as_number view value one container too_deep by_form items sized payload sum form_of same_kind unsigned unsigned_by due due_in natural_of header counted
 select_read = (refl, refl)
 
 abbrev rising : Bytes
@@ -227,5 +227,5 @@ rising =
 
 -- "so that writing it again leaves it out"
 select-written : (frame_write selected select 32 ≡ written rising) × (frame_write selected select 31 ≡ refused 18) × (frame_write short_selected short 18 ≡ written short)
-unfolding frame_write write_items each sound is_whole frame_form contents map_form flat pairs onto given check required is_error among codes header_items body_items number_held place_held suits is_header view all encoded is_some locate value one container too_deep by_form items sized payload sum form_of same_kind header counted joined big_endian unsigned_form map_header
+unfolding frame_write write_items each sound is_whole frame_form contents map_form flat pairs onto given check required is_error among codes header_items body_items number_held place_held suits is_header view encoded is_some locate value one container too_deep by_form items sized payload sum form_of same_kind header counted joined big_endian unsigned_form map_header
 select-written = (refl, refl, refl)

@@ -1,5 +1,6 @@
 -- What a key holds, and what it must hold.
 use Rattle.std.specs.Prelude.{ℕ, ◌+◌, Bool, true, false, ◌&&◌, List, [], ◌∷◌, leb, eqb, length, take, drop, Some, None, Ok, Err}
+use Rattle.std.specs.List.{list_all}
 use Rattle.std.proofs.Math.Option.{Option, none, some}
 use Rattle.msgpack_first_bytes.specs.Bytes.{Bytes, pick}
 use Rattle.msgpack_scalars.specs.Start.{string_by, array_by}
@@ -10,11 +11,10 @@ use Rattle.msgpack_values.specs.declared.OptionalNumber.{OptionalNumber}
 use Rattle.frames.specs.declared.Place.{Place}
 use Rattle.frames.specs.declared.Rule.{Rule}
 use Rattle.frames.specs.declared.Rule.TheVariants.{AtMost, Array, String, Anything}
-use Rattle.msgpack_scalars.specs.declared.NoNumber.TheVariants.{Cut, Other}
 
-unfoldable pub all : {A : Type 0} → (A → Bool) → List A → Bool
-all p [] = true
-all p (x ∷ xs) = p x && all p xs
+-- the library's word, which it knows of chains of iterators
+abbrev pub all : {A : Type 0} → (A → Bool) → List A → Bool
+all p xs = list_all p xs
 
 -- ---- what a key holds: nothing, a place outside its bytes (the writer may be given one), a number, or a value's encoding
 
@@ -31,8 +31,7 @@ view s p = take p.length (drop p.start s)
 -- the number that a view is, in any width
 unfoldable pub as_number : Natural → Option ℕ
 as_number (Ok (n, e)) = some n
-as_number (Err Cut) = none
-as_number (Err Other) = none
+as_number (Err e) = none
 
 unfoldable pub number_in : Bytes → Place → Option ℕ
 number_in s p = pick p.present (as_number (unsigned (view s p))) none

@@ -10,7 +10,6 @@ use Rattle.frames.specs.declared.Place.{Place}
 use Rattle.frames.specs.Limits.{max_key}
 use Rattle.frames.specs.Keys.{nowhere}
 use Rattle.frames.specs.Cascade.{check, given, whole}
-use Rattle.msgpack_scalars.specs.declared.NoNumber.TheVariants.{Cut, Other}
 
 pub record Entry : Type 0 where
   pub key : ℕ
@@ -22,8 +21,7 @@ entry k a n = record { key = k; start = a; length = n }
 
 -- "Their keys are unsigned numbers 0 to 127"; a key in a signed form is none
 unfoldable pub keyed : {A : Type 0} → Natural → (ℕ → ℕ → Option A) → Option A
-keyed (Err Other) next = none
-keyed (Err Cut) next = none
+keyed (Err e) next = none
 keyed (Ok (k, l)) next = check none (leb k max_key) (next k l)
 
 -- the entry at `at`, its value of depth at most d: none where its key is no key (the values of a whole map are whole)

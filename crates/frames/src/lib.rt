@@ -33,6 +33,17 @@ pub struct Place {
     pub length: usize,
 }
 
+pub const NO_NUMBER: OptionalNumber = OptionalNumber {
+    present: false,
+    value: 0,
+};
+
+pub const NOWHERE: Place = Place {
+    present: false,
+    start: 0,
+    length: 0,
+};
+
 // What a frame holds under its known keys.
 #[repr(C)]
 #[derive(Clone, Copy)]
@@ -55,6 +66,27 @@ pub struct Frame {
     pub data: Place,
     pub error: Place,
 }
+
+// No key at all.
+pub const EMPTY_FRAME: Frame = Frame {
+    code: 0,
+    sync: NO_NUMBER,
+    schema_version: NO_NUMBER,
+    space: NO_NUMBER,
+    index: NO_NUMBER,
+    limit: NO_NUMBER,
+    offset: NO_NUMBER,
+    iterator: NO_NUMBER,
+    index_base: NO_NUMBER,
+    key: NOWHERE,
+    tuple: NOWHERE,
+    function: NOWHERE,
+    user: NOWHERE,
+    expression: NOWHERE,
+    ops: NOWHERE,
+    data: NOWHERE,
+    error: NOWHERE,
+};
 
 // What reading a frame answers: 0 with its length and record, or a refusal's number with length 0 and an empty record; with 4 also the
 // place of the first byte that spoils the frame, counted from its start.

@@ -1,6 +1,7 @@
 -- What each step of a feed says of the definition. Assumes nothing.
 use Rattle.std.specs.Prelude.{Ok, Err}
 use Rattle.std.proofs.Common.{◌≡◌, ℕ, ◌+◌, ◌-◌, ◌≤◌, min, Bool, not, eqb, ltb, leb, [], ◌∷◌, ◌++◌, length, take, sym, refl, ap, ◌∙◌, subst, ⊎_elim, arith, length-append, length-take-le, take_all, ne_eqb, le-leb}
+use Rattle.std.proofs.lemmas.List.{take_min}
 use borrow.Author.Tests.{lt-leb}
 use Rattle.msgpack_first_bytes.specs.Bytes.{Bytes}
 use Rattle.msgpack_first_bytes.proofs.Logic.{either}
@@ -20,10 +21,7 @@ use Rattle.sessions.proofs.Shown.{take-both, shown}
 -- ---- lists
 
 pub take_least : (n : ℕ) (x : Bytes) {m : ℕ} → m ≡ min n (length x) → take m x ≡ take n x
-take_least n x {m} e =
-    ⊎_elim (λ h. let z : m ≡ n = omega arith in rw z) (λ h.
-    let z : m ≡ length x = omega arith in
-    rw z (take_all (length x) x (omega arith) ∙ sym (take_all n x (omega arith)))) (either n (length x))
+take_least n x e = rw e (take_min n x)
 
 -- ---- the size number, over two pieces
 

@@ -9,7 +9,7 @@ use Rattle.msgpack_values.specs.declared.OptionalNumber.{OptionalNumber}
 use Rattle.msgpack_scalars.specs.Integer.{due_in, due, natural_of, unsigned_by, unsigned}
 use Rattle.msgpack_scalars.specs.Header.{counted, header}
 use Rattle.msgpack_writing.specs.Put.{put}
-use Rattle.frames.specs.Held.{all, view, as_number, number_in, is_header, suits, number_or_bytes, value_held, held_at, number_held, place_held}
+use Rattle.frames.specs.Held.{view, as_number, number_in, is_header, suits, number_or_bytes, value_held, held_at, number_held, place_held}
 use Rattle.frames.specs.Keys.{header_items, body_items, optional, code_in, frame_at, empty_frame}
 use Rattle.frames.specs.Codes.{codes, among, is_error, required}
 use Rattle.frames.specs.Maps.{keyed, entry_at, entries, entries_by, entries_at, keys, has, distinct, find}
@@ -111,7 +111,7 @@ cases =
     ∷ []
 
 worked : map (λ (x : Case). answers x.steps x.session (filled x.room)) cases ≡ map (λ (x : Case). x.lines) cases
-unfolding feed_of carry_of begun go_on carried_on kept fed session_after idle settled_by fresh view_of put frame_read by_size size_of size_by in_frame broken spoiled_at body_entries body_value by_entries by_places suited accept refuse whole given check find distinct has keys entries_at entries_by entries entry_at keyed required is_error among codes empty_frame frame_at code_in optional header_items body_items number_held place_held held_at value_held number_or_bytes suits is_header number_in as_number view all value one container too_deep by_form items sized payload sum form_of same_kind unsigned unsigned_by due due_in natural_of header counted
+unfolding feed_of carry_of begun go_on carried_on kept fed session_after idle settled_by fresh view_of put frame_read by_size size_of size_by in_frame broken spoiled_at body_entries body_value by_entries by_places suited accept refuse whole given check find distinct has keys entries_at entries_by entries entry_at keyed required is_error among codes empty_frame frame_at code_in optional header_items body_items number_held place_held held_at value_held number_or_bytes suits is_header number_in as_number view value one container too_deep by_form items sized payload sum form_of same_kind unsigned unsigned_by due due_in natural_of header counted
 worked = refl
 
 -- ---- three cuttings show the same as the uncut bytes
@@ -163,5 +163,5 @@ expected =
     }
 
 same : frames (frames_of stream) ∷ map (λ (ns : List ℕ). frames (run ns stream fresh (filled 60009)).seen) cuttings ≡ expected ∷ map (λ (ns : List ℕ). expected) cuttings
-unfolding frames_of frames_from run adding feed_of carry_of begun go_on carried_on kept fed session_after idle settled_by fresh view_of put frame_read by_size size_of size_by in_frame broken spoiled_at body_entries body_value by_entries by_places suited accept refuse whole given check find distinct has keys entries_at entries_by entries entry_at keyed required is_error among codes empty_frame frame_at code_in optional header_items body_items number_held place_held held_at value_held number_or_bytes suits is_header number_in as_number view all value one container too_deep by_form items sized payload sum form_of same_kind unsigned unsigned_by due due_in natural_of header counted
+unfolding frames_of frames_from run adding feed_of carry_of begun go_on carried_on kept fed session_after idle settled_by fresh view_of put frame_read by_size size_of size_by in_frame broken spoiled_at body_entries body_value by_entries by_places suited accept refuse whole given check find distinct has keys entries_at entries_by entries entry_at keyed required is_error among codes empty_frame frame_at code_in optional header_items body_items number_held place_held held_at value_held number_or_bytes suits is_header number_in as_number view value one container too_deep by_form items sized payload sum form_of same_kind unsigned unsigned_by due due_in natural_of header counted
 same = refl

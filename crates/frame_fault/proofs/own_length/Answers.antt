@@ -1,24 +1,21 @@
 -- All, or as many as are promised.
-use mathlib.Core.Path.{sym, ◌∙◌}
+use Rattle.std.specs.Prelude.{Ok}
+use mathlib.Core.Path.{sym, subst, ◌∙◌}
 use native.Mathlib.Omega.{arith}
-use Rattle.frame_reading.proofs.Contents.{size_fits}
-use Rattle.frame_fault.proofs.Lines.{own-refused, own-cut, own_promised}
+use Rattle.frames.proofs.Sizes.{Told, size_told}
+use Rattle.frame_fault.proofs.Lines.{own-refused, own_promised}
 use Rattle.frame_fault.proofs.own_length.Goals as goal
 
-pub overflow_sub-left : goal.overflow_sub-left
-overflow_sub-left c =
-    size_fits c.args.left.now _ _ (sym c.in-Ok.is ∙ c.read_size.ensures)
+pub overflow_add-from : goal.overflow_add-from
+overflow_add-from c =
+    let s = c.args.left.now in
+    let t : Told s (Ok (c.in-Ok.size, c.in-Ok.from)) = subst (Told s) (sym (sym c.in-Ok.is ∙ c.read_size.ensures)) (size_told s) in
+    let i = t.0.1 in
+    let j = t.1.few in
+    record { fits = omega arith }
 
-pub returns-then-left-from : goal.returns-then-left-from
-returns-then-left-from c =
-    (omega arith, own-cut c.args.left.now _ _ (sym c.in-Ok.is ∙ c.read_size.ensures) c.if-left-from.true)
+pub returns-in-Ok : goal.returns-in-Ok
+returns-in-Ok c = (omega arith, own_promised c.args.left.now _ _ (sym c.in-Ok.is ∙ c.read_size.ensures) c.min.ensures)
 
-pub returns-in-Refused : goal.returns-in-Refused
-returns-in-Refused c =
-    (omega arith, own-refused c.args.left.now _ _ (sym c.in-Refused.is ∙ c.read_size.ensures))
-
-pub returns-else-left-from : goal.returns-else-left-from
-returns-else-left-from c =
-    let e = sym c.in-Ok.is ∙ c.read_size.ensures in
-    let f = size_fits c.args.left.now _ _ e in
-    (omega arith, own_promised c.args.left.now _ _ e)
+pub returns-in-Err : goal.returns-in-Err
+returns-in-Err c = (omega arith, own-refused c.args.left.now _ _ (sym c.in-Err.is ∙ c.read_size.ensures))

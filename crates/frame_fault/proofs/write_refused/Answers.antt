@@ -11,4 +11,4 @@ unfolding refused_line
 returns c =
     let a = c.args in
     rw (twice (text "refused  ") (decimal a.number) (text ", ") (words_of a.number) (text "\n")) at
-    (also c.write_counted-to.ensures (also (piece (words_of a.number) c.write_words-to.ensures) (piece (text "\n") c.write_bytes.ensures)))
+    (also (rw c.from.ensures at c.write_counted-to.ensures) (also (piece (words_of a.number) c.write_words-to.ensures) (piece (text "\n") c.write_bytes.ensures)))

@@ -8,14 +8,14 @@ use Rattle.frame_fault_fields.proofs.lay_cells.Goals as goal
 
 pub loop-i-init : goal.loop-i-init
 unfolding cells
-loop-i-init c = (omega arith, refl, none _ _)
+loop-i-init c = (refl, none _ _)
 
 pub loop-i-preserved : goal.loop-i-preserved
 unfolding cells
 loop-i-preserved c =
-    (omega arith, c.write_cell-to.auto.out ∙ c.loop-i.invariant.1, rw add-one (also c.loop-i.invariant.2 c.write_cell-to.ensures))
+    (c.write_cell-to.auto.out ∙ c.loop-i.invariant.0, rw add-one (also c.loop-i.invariant.1 c.write_cell-to.ensures))
 
 pub returns : goal.returns
 returns c =
     let e : c.loop-i.i ≡ c.args.count = omega arith in
-    rw e at c.loop-i.invariant.2
+    rw e at c.loop-i.invariant.1

@@ -1,13 +1,9 @@
 -- One byte after the other.
 use mathlib.Core.Path.{◌≡◌}
-use Prim.Native.Nat.{◌-◌, ◌≤◌}
 use lib.ListN.{length}
 use Rattle.frame_fault_fields.specs.Dump.{cells}
 use Rattle.frame_fault_fields.specs.Steps.{Lays}
 use Rattle.frame_fault_fields.proofs.lay_cells.Given as goal
 
 abbrev pub invariant-loop-i : goal.invariant-loop-i
-invariant-loop-i l = (l.i ≤ l.count) × (length l.text ≡ length l.initial.text) × Lays l.initial.text 0 (cells l.frame l.place l.from l.i) l.text l.to
-
-abbrev pub decreases-loop-i : goal.decreases-loop-i
-decreases-loop-i l = l.count - l.i
+invariant-loop-i l = (length l.text ≡ length l.initial.text) × Lays l.initial.text 0 (cells l.frame l.place l.from l.i) l.text l.to

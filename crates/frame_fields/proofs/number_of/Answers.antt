@@ -8,8 +8,6 @@ pub returns-in-Ok : goal.returns-in-Ok
 unfolding optional as_number
 returns-in-Ok c = rw (number-front _ c.in-Ok.is c.unsigned_at.ensures)
 
-pub returns-in-Err-Cut : goal.returns-in-Err-Cut
-returns-in-Err-Cut c = unfold optional as_number in rw (number-front _ c.in-Err-Cut.is c.unsigned_at.ensures)
-
-pub returns-in-Err-Other : goal.returns-in-Err-Other
-returns-in-Err-Other c = unfold optional as_number in rw (number-front _ c.in-Err-Other.is c.unsigned_at.ensures)
+pub returns-in-Err : goal.returns-in-Err
+unfolding optional as_number
+returns-in-Err c = rw (number-front _ c.in-Err.is c.unsigned_at.ensures)

@@ -3,20 +3,31 @@ use Rattle.frame_judging.specs.Parts.{items_between}
 use Rattle.frame_judging.proofs.Runs.{run, no_run}
 use Rattle.frame_judging.proofs.Passes.{none_yet, next_turn, none_left}
 use native.Mathlib.Omega.{arith}
+use mathlib.Core.Path.{◌≡◌, refl, ap, ◌∙◌}
+use mathlib.Core.Bool.{Bool, true, false}
+use Prim.Native.Nat.{◌≤◌}
+use mir.Val.{bool_byte}
+use Rattle.msgpack_first_bytes.specs.Bytes.{pick}
 use Rattle.frame_judging.proofs.judged.Goals as goal
 
+-- a pair is written or not
+one_or_none : (b : Bool) → (bool_byte b ≤ 1) × (bool_byte b ≡ pick b 1 0)
+one_or_none true = (omega arith, refl)
+one_or_none false = (omega arith, refl)
+
 pub loop-i-init : goal.loop-i-init
-loop-i-init c = let a = c.args in ((omega arith, omega arith), none_yet (items_between a.from a.to a.frame a.bytes.now))
+loop-i-init c = let a = c.args in (omega arith, none_yet (items_between a.from a.to a.frame a.bytes.now))
 
 pub loop-i-preserved : goal.loop-i-preserved
 loop-i-preserved c =
-    let p = c.before.before in
-    let w = p.before in
-    let k = w.before.before in
-    let l = k.loop-i in
-    let a = k.args in
-    let e = run a.frame a.bytes.now l.i a.to k.known_key-known.ensures k.loop-i-test.true (omega arith) in
-    ((omega arith, omega arith), next_turn a.bytes.now k.known_key-known.result e l.invariant.1 w.is_sound-sound.ensures w.content_suits-suited.ensures p.pairs_of-count.ensures.0 c.pair_length.ensures c.capped_sum-length.ensures)
+    let l = c.loop-i in
+    let a = c.args in
+    let e = run a.frame a.bytes.now l.i a.to c.known_key-rule.ensures c.loop-i-test.true (omega arith) in
+    let b = one_or_none c.is_written.result in (
+      omega arith,
+      next_turn a.bytes.now c.known_key-rule.result e l.invariant.1 c.is_sound-sound.ensures c.content_suits-suited.ensures
+      (c.from-count.ensures ∙ b.1 ∙ ap (λ (w : Bool). pick w 1 0) c.is_written.ensures) c.pair_length.ensures c.capped_sum-length.ensures,
+    )
 
 pub returns : goal.returns
 returns c =

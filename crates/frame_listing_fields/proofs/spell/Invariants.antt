@@ -7,8 +7,5 @@ use Rattle.frame_listing_fields.specs.Text.{decimal}
 use Rattle.frame_listing_fields.specs.Steps.{ended}
 use Rattle.frame_listing_fields.proofs.spell.Given as goal
 
-abbrev pub invariant-loop-rest : goal.invariant-loop-rest
-invariant-loop-rest l = (length l.text ≡ 21) × (l.i ≤ 20) × (0 < l.i) × (l.rest < 10 ^ 20) × (length (decimal l.rest) ≤ l.i) × (decimal l.rest ++ drop l.i l.text ≡ ended l.n l.end)
-
-abbrev pub decreases-loop-rest : goal.decreases-loop-rest
-decreases-loop-rest l = l.rest
+abbrev pub invariant-loop-i : goal.invariant-loop-i
+invariant-loop-i l = (length l.text ≡ 21) × (l.rest < 10 ^ 20) × (length (decimal l.rest) ≤ l.i) × (decimal l.rest ++ drop l.i l.text ≡ ended l.n l.end)

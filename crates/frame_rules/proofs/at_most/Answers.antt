@@ -7,10 +7,6 @@ pub returns-in-Ok : goal.returns-in-Ok
 unfolding suits value_held number_or_bytes as_number
 returns-in-Ok c = rw (number-front _ c.in-Ok.is c.unsigned_at.ensures)
 
-pub returns-in-Err-Cut : goal.returns-in-Err-Cut
+pub returns-in-Err : goal.returns-in-Err
 unfolding suits value_held number_or_bytes as_number
-returns-in-Err-Cut c = rw (number-front _ c.in-Err-Cut.is c.unsigned_at.ensures)
-
-pub returns-in-Err-Other : goal.returns-in-Err-Other
-unfolding suits value_held number_or_bytes as_number
-returns-in-Err-Other c = rw (number-front _ c.in-Err-Other.is c.unsigned_at.ensures)
+returns-in-Err c = rw (number-front _ c.in-Err.is c.unsigned_at.ensures)

@@ -1,4 +1,5 @@
 -- By the content.
+use mathlib.Core.Logic.{inl, inr}
 use Rattle.frames.specs.Held.{encoded}
 use Rattle.frame_items.specs.Content.{held_of}
 use Rattle.frame_judging.specs.Parts.{pair_of}
@@ -15,11 +16,9 @@ put_view-requires c = rw (c.in-View.is, ← c.view_of.ensures) at c.requires
 
 pub returns-in-Absent : goal.returns-in-Absent
 unfolding held_of encoded pair_of
-returns-in-Absent c = let a = c.args in nothing a.out.now a.at (pair_of a.key (encoded (held_of a.bytes.now a.content))) (rw c.in-Absent.is)
-
-pub returns-in-Outside : goal.returns-in-Outside
-unfolding held_of encoded pair_of
-returns-in-Outside c = let a = c.args in nothing a.out.now a.at (pair_of a.key (encoded (held_of a.bytes.now a.content))) (rw c.in-Outside.is)
+returns-in-Absent c =
+    let a = c.args in
+    nothing a.out.now a.at (pair_of a.key (encoded (held_of a.bytes.now a.content))) (elim c.in-Absent.is [ inl e ↦ rw e | inr e ↦ rw e ])
 
 pub returns-in-Number : goal.returns-in-Number
 unfolding held_of encoded pair_of

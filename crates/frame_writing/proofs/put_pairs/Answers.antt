@@ -14,23 +14,23 @@ pub put_pair-a-requires : goal.put_pair-a-requires
 put_pair-a-requires c =
     let l = c.loop-i in
     let a = c.args in
-    first-room (pair_of c.known_key-known.result.key (encoded (held_of a.bytes.now c.known_key-known.result.content))) _ l.a (pair-first a.bytes.now c.known_key-known.result (run a.frame a.bytes.now l.i a.to c.known_key-known.ensures c.loop-i-test.true (omega arith))) l.invariant.1.room
+    first-room (pair_of c.known_key-key.result.key (encoded (held_of a.bytes.now c.known_key-key.result.content))) _ l.a (pair-first a.bytes.now c.known_key-key.result (run a.frame a.bytes.now l.i a.to c.known_key-key.ensures c.loop-i-test.true (omega arith))) l.invariant.room
 
 pub loop-i-preserved : goal.loop-i-preserved
 loop-i-preserved c =
     let l = c.loop-i in
     let a = c.args in
-    (omega arith, turn_on l.invariant.1 (pair_of c.known_key-known.result.key (encoded (held_of a.bytes.now c.known_key-known.result.content))) (pair-first a.bytes.now c.known_key-known.result (run a.frame a.bytes.now l.i a.to c.known_key-known.ensures c.loop-i-test.true (omega arith))) c.put_pair-a.ensures)
+    turn_on l.invariant (pair_of c.known_key-key.result.key (encoded (held_of a.bytes.now c.known_key-key.result.content))) (pair-first a.bytes.now c.known_key-key.result (run a.frame a.bytes.now l.i a.to c.known_key-key.ensures c.loop-i-test.true (omega arith))) c.put_pair-a.ensures
 
 pub returns : goal.returns
 unfolding pair_bytes pairs flat joined
 returns c =
     let l = c.loop-i in
     let a = c.args in
-    turned l.invariant.1 (ap pair_bytes (no_run a.frame a.bytes.now l.i a.to (omega arith) (omega arith)))
+    turned l.invariant (ap pair_bytes (no_run a.frame a.bytes.now l.i a.to (omega arith) (omega arith)))
 
 pub loop-i-init : goal.loop-i-init
-loop-i-init c = (omega arith, all_left _ _ _ c.requires.1)
+loop-i-init c = all_left _ _ _ c.requires.1
 
 pub shape_of-out : goal.shape_of-out
-shape_of-out c = long c.loop-i.invariant.1
+shape_of-out c = long c.loop-i.invariant

@@ -15,16 +15,17 @@ returns-then-session-ne0 c = rw (le-ltb _ _ c.if-carry-lt-CARRY_ROOM.false, ne_e
 pub answered-requires : goal.answered-requires
 answered-requires c =
     let a = c.args in
-    let n = c.least-held.result in
-    let m = c.least-held.ensures in
-    waits (take n a.carry.now) a.piece.now (sym (length-take-le n a.carry.now (omega arith))) c.go_on-frame.ensures.0.1
+    let n = c.min-held.result in
+    let m = c.min-held.ensures in
+    let t = c.go_on-frame.ensures in
+    rw (t.0.0.0, t.0.0.1) (waits (take n a.carry.now) a.piece.now (sym (length-take-le n a.carry.now (omega arith))) t.0.1.1)
 
 pub returns : goal.returns
 unfolding feed_of carry_of begun
 returns c =
     let a = c.args in
-    let n = c.least-held.result in
-    let m = c.least-held.ensures in
+    let n = c.min-held.result in
+    let m = c.min-held.ensures in
     let t = c.go_on-frame.ensures in
     rw (le-ltb _ _ c.if-carry-lt-CARRY_ROOM.false, eq-eqb _ 0 c.if-session-ne0.false, ← (take_least a.session.held a.carry.now m))
-    (answer-is (take n a.carry.now) a.piece.now (sym (length-take-le n a.carry.now (omega arith))) t.0.1 a.session t.0.0 c.answered.ensures, t.1)
+    (answer-is (take n a.carry.now) a.piece.now (sym (length-take-le n a.carry.now (omega arith))) t.0.1.1 a.session t.0.1.0 (rw (t.0.0.0, t.0.0.1) at c.answered.ensures), t.1)

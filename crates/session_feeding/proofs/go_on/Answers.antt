@@ -1,5 +1,5 @@
 -- A refused size, or the contents that it promises.
-use Rattle.std.proofs.Common.{◌≡◌, length, take, sym, ◌∙◌, arith, length-take-le}
+use Rattle.std.proofs.Common.{◌≡◌, length, take, sym, refl, ◌∙◌, arith, length-take-le}
 use Rattle.session_feeding.proofs.Steps.{refused-stop, refused-read, refused_settled, promised_stop, promised_few, come, promised_settled, carry_is, promised_answer}
 use Rattle.session_feeding.proofs.go_on.Goals as goal
 
@@ -12,14 +12,14 @@ overflow_add-stop c =
     let l = promised_few (take a.held a.carry.now) a.piece.now (sym c.in-Ok.is ∙ c.size_over.ensures) in
     omega arith
 
-pub returns-in-Refused : goal.returns-in-Refused
-returns-in-Refused c =
+pub returns-in-Err : goal.returns-in-Err
+returns-in-Err c =
     let a = c.args in
     let p = a.piece.now in
     let b = take a.held a.carry.now in
     let l = sym (length-take-le a.held a.carry.now c.requires.0) in
-    let e = sym c.in-Refused.is ∙ c.size_over.ensures in
-    ((refused-stop b p e, c.refused.ensures ∙ refused-read b p e), carry_is b p a.carry.now l (refused-stop b p e) (refused_settled b p e) c.keep.ensures)
+    let e = sym c.in-Err.is ∙ c.size_over.ensures in
+    (((refl, refl), (refused-stop b p e, c.refused-answer.ensures ∙ refused-read b p e)), carry_is b p a.carry.now l (refused-stop b p e) (refused_settled b p e) c.keep.ensures)
 
 pub returns-in-Ok : goal.returns-in-Ok
 returns-in-Ok c =
@@ -29,6 +29,6 @@ returns-in-Ok c =
     let b = take a.held a.carry.now in
     let l : a.held ≡ length b = sym (length-take-le a.held a.carry.now h.0) in
     let e = sym c.in-Ok.is ∙ c.size_over.ensures in (
-      (promised_stop b p e, promised_answer p a.carry.now a.held h.0 h.1 e c.above.ensures c.keep-in-Ok.ensures c.view-frame.ensures c.contents.ensures),
-      carry_is b p a.carry.now l (promised_stop b p e) (rw c.above.ensures (come b p e l) ∙ promised_settled b p e) c.keep-in-Ok.ensures,
+      ((refl, refl), (promised_stop b p e, promised_answer p a.carry.now a.held h.0 h.1 e c.saturating_sub.ensures c.keep-in-Ok.ensures c.view.ensures c.contents-answer.ensures)),
+      carry_is b p a.carry.now l (promised_stop b p e) (rw c.saturating_sub.ensures (come b p e l) ∙ promised_settled b p e) c.keep-in-Ok.ensures,
     )

@@ -1,24 +1,20 @@
 -- Each refusal in its order, then the bytes.
-use mathlib.Core.Path.{sym, ap, ◌∙◌}
+use mathlib.Core.Path.{ap, ◌∙◌}
 use mathlib.Core.Bool.{◌&&◌}
-use borrow.Author.Tests.{not-true, not-false}
-use lib.ListN.{take}
-use lib.Seq.{length-take-le}
 use Rattle.frames.specs.Held.{suits as suitsRule, Item}
 use Rattle.frames.specs.Keys.{header_items, body_items}
 use Rattle.frames.specs.Writing.{sound as soundHeld}
-use Rattle.frame_rules.proofs.Laws.{code_unknown, code_known, keys-fit}
 use Rattle.frame_judging.specs.declared.Judgement.{Judgement}
 use Rattle.frame_judging.proofs.Lengths.{contents-counted}
-use Rattle.frame_writing.proofs.Calls.{Judged, both, call_8, call_4, call_9, call_10, call_3, sized, call_18, room, call_0}
-use Rattle.frame_writing.proofs.write_frame.Goals.{After-contents_length-size}
-use Rattle.frame_writing.proofs.write_frame.Goals as goal
+use Rattle.frame_writing.proofs.Calls.{Judged, both, code_unknown, code_known, call_8, call_4, call_9, call_10, call_3, sized, call_18, room, call_0}
+use Rattle.frame_writing.proofs.write_record.Goals.{After-contents_length-size}
+use Rattle.frame_writing.proofs.write_record.Goals as goal
 
 -- what the judgements say
 facts : (c : After-contents_length-size)
-    → (let r = c.args.frame in let s = c.args.bytes.now in let w = c.needs_of-needs.result in
+    → (let r = c.args.frame in let s = c.args.bytes.now in
     let h = c.header_judged-header.result in let g = c.body_judged-body.result in
-    Judged r s (take w.count w.keys) (h.sound && g.sound) (h.suited && g.suited) c.holds_all-there.result c.contents_length-size.result)
+    Judged r s c.in-Some.keys.now (h.sound && g.sound) (h.suited && g.suited) c.holds_all-there.result c.contents_length-size.result)
 facts c =
     let r = c.args.frame in
     let s = c.args.bytes.now in
@@ -27,53 +23,51 @@ facts c =
     let h = c.header_judged-header.ensures in
     let g = c.body_judged-body.ensures in
     record {
-      known = code_known r.code c.needs_of-needs.ensures (not-false _ c.if-not-needs.false);
+      known = code_known r.code _ c.in-Some.ensures;
       four = both (λ (x : Item). soundHeld x.held) hs bs (ap (λ (j : Judgement). j.sound) h) (ap (λ (j : Judgement). j.sound) g);
       nine = both (λ (x : Item). suitsRule x.rule x.held) hs bs (ap (λ (j : Judgement). j.suited) h) (ap (λ (j : Judgement). j.suited) g);
       ten = c.holds_all-there.ensures;
       size = c.contents_length-size.ensures ∙ contents-counted r s (ap (λ (j : Judgement). j.length) h) (ap (λ (j : Judgement). j.length) g);
     }
 
+pub returns-in_default : goal.returns-in_default
+returns-in_default c = call_8 _ _ _ (code_unknown _ c.in_default.ensures)
+
 pub returns-then-not-sound : goal.returns-then-not-sound
 returns-then-not-sound c =
-    rw c.refused-then-not-sound.ensures
-    (call_4 _
+    call_4 _
     (facts (goal.at.returns-then-not-sound c).After-contents_length-size)
-    c.if-not-sound.true)
+    c.if-not-sound.true
 
 pub returns-then-not-suited : goal.returns-then-not-suited
 returns-then-not-suited c =
-    rw c.refused-then-not-suited.ensures
-    (call_9 _
+    call_9 _
     (facts (goal.at.returns-then-not-suited c).After-contents_length-size)
-    c.if-not-sound.false c.if-not-suited.true)
+    c.if-not-sound.false c.if-not-suited.true
 
 pub returns-then-not-there : goal.returns-then-not-there
 returns-then-not-there c =
-    rw c.refused-then-not-there.ensures
-    (call_10 _
+    call_10 _
     (facts (goal.at.returns-then-not-there c).After-contents_length-size)
-    c.if-not-sound.false c.if-not-suited.false c.if-not-there.true)
+    c.if-not-sound.false c.if-not-suited.false c.if-not-there.true
 
 pub returns-then-size-gt-MAX_SIZE : goal.returns-then-size-gt-MAX_SIZE
 returns-then-size-gt-MAX_SIZE c =
-    rw c.refused-then-size-gt-MAX_SIZE.ensures
-    (call_3 _
+    call_3 _
     (facts (goal.at.returns-then-size-gt-MAX_SIZE c).After-contents_length-size)
-    c.if-not-sound.false c.if-not-suited.false c.if-not-there.false c.if-size-gt-MAX_SIZE.true)
+    c.if-not-sound.false c.if-not-suited.false c.if-not-there.false c.if-size-gt-MAX_SIZE.true
 
 pub returns-then-out-size : goal.returns-then-out-size
 returns-then-out-size c =
-    rw c.refused-then-out-size.ensures
-    (call_18 _
+    call_18 _
     (facts (goal.at.returns-then-out-size c).After-contents_length-size)
-    c.if-not-sound.false c.if-not-suited.false c.if-not-there.false c.if-size-gt-MAX_SIZE.false c.if-out-size.true)
+    c.if-not-sound.false c.if-not-suited.false c.if-not-there.false c.if-size-gt-MAX_SIZE.false c.if-out-size.true
 
-pub put_frame-length-requires : goal.put_frame-length-requires
-put_frame-length-requires c =
+pub put_frame-requires : goal.put_frame-requires
+put_frame-requires c =
     let a = c.args in
     let out = a.out.now in
-    let f = facts (goal.at.put_frame-length-requires c).After-contents_length-size in
+    let f = facts (goal.at.put_frame-requires c).After-contents_length-size in
     let h = c.if-size-gt-MAX_SIZE.false in
     ((sized out f h, (ap (λ (j : Judgement). j.count) c.header_judged-header.ensures, ap (λ (j : Judgement). j.count) c.body_judged-body.ensures)), room out f h c.if-out-size.false)
 
@@ -81,13 +75,4 @@ pub returns : goal.returns
 returns c =
     call_0 _
     (facts (goal.at.returns c).After-contents_length-size)
-    c.if-not-sound.false c.if-not-suited.false c.if-not-there.false c.if-size-gt-MAX_SIZE.false c.if-out-size.false c.put_frame-length.ensures
-
-pub returns-then-not-needs : goal.returns-then-not-needs
-returns-then-not-needs c = rw c.refused.ensures (call_8 _ _ _ (code_unknown _ c.needs_of-needs.ensures (not-true _ c.if-not-needs.true)))
-
-pub slice_bounds-keys-end : goal.slice_bounds-keys-end
-slice_bounds-keys-end c = keys-fit _ c.needs_of-needs.ensures
-
-pub slice_bounds-holds_all-end : goal.slice_bounds-holds_all-end
-slice_bounds-holds_all-end c = sym (length-take-le _ _ (keys-fit _ c.needs_of-needs.ensures))
+    c.if-not-sound.false c.if-not-suited.false c.if-not-there.false c.if-size-gt-MAX_SIZE.false c.if-out-size.false c.put_frame.ensures

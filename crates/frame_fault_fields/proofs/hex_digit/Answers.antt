@@ -1,9 +1,0 @@
--- 0 to 9, then a to f.
-use borrow.Author.Tests.{lt-ltb, le-ltb}
-use Rattle.frame_fault_fields.proofs.hex_digit.Goals as goal
-
-pub returns-then-d-lt10 : goal.returns-then-d-lt10
-returns-then-d-lt10 c = rw (lt-ltb _ 10 c.if-d-lt10.true)
-
-pub returns-else-d-lt10 : goal.returns-else-d-lt10
-returns-else-d-lt10 c = rw (le-ltb _ 10 c.if-d-lt10.false)
