@@ -1,6 +1,6 @@
 -- A new field's answer; and what is made in the free bytes alone. Assumes nothing.
-use Rattle.std.specs.Prelude.{Ok, Err}
-use mathlib.Core.Path.{◌≡◌, refl, ap, ◌∙◌}
+use Rattle.std.specs.Prelude.{Ok, Err, IfOk}
+use mathlib.Core.Path.{◌≡◌, refl, sym, ap, ◌∙◌}
 use mathlib.Core.List.{◌++◌}
 use mathlib.Core.Logic.{⊎_elim}
 use Prim.Native.Nat.{ℕ, ◌+◌, ◌-◌, ◌<◌, ◌≤◌, min}
@@ -8,7 +8,7 @@ use native.Mathlib.Omega.{arith}
 use borrow.Author.Tests.{le-leb, lt-leb}
 use lib.Dec.{leb}
 use lib.ListN.{length, take, drop, length-drop, take-append-drop}
-use lib.Seq.{drop-drop}
+use lib.Seq.{drop-drop, take-length, take_all}
 use Rattle.msgpack_first_bytes.specs.Bytes.{Bytes, pick}
 use Rattle.msgpack_first_bytes.proofs.Logic.{either}
 use Rattle.msgpack_writing.specs.Put.{next}
@@ -17,7 +17,9 @@ use Rattle.msgpack_writing.proofs.Put.{refused}
 use Rattle.tuples.specs.Limits.{max_tuple}
 use Rattle.tuples.specs.Edit.{Edit, refuse, put, add, cut}
 use Rattle.tuples.specs.declared.Refusal.TheVariants.{TooLarge}
-use Rattle.update_altering.specs.Altering.{Alters, Altered, altered_by, work_by}
+use Rattle.update_operations.specs.declared.Change.{Change}
+use Rattle.update_places.specs.Place.{start_of, length_of, bytes_from, bytes_at}
+use Rattle.update_altering.specs.Altering.{changed, Alters, Altered, altered_by, work_by}
 use Rattle.update_altering.specs.Splicing.{Writes}
 use Rattle.update_altering.specs.declared.Obstacle.TheVariants.{Full, Refused}
 
@@ -37,13 +39,6 @@ module _ (b work : Bytes) (used : ℕ) where
 
 -- ---- what is made in the free bytes alone, is made behind those in use
 
--- the bytes of a new field are not empty
-abbrev pub Solid : Edit → Type 0
-Solid (put f b) = 0 < length b
-Solid (refuse k) = Unit {0}
-Solid (add f b) = Unit {0}
-Solid (cut f m) = Unit {0}
-
 abbrev pub behind : ℕ → Altered → Altered
 behind used (Ok e) = Ok (used + e)
 behind used (Err o) = Err o
@@ -53,21 +48,22 @@ module _ (used : ℕ) (work : Bytes) where
   taken = min used (length work)
 
   -- an edit that is made in the free bytes, and what it leaves of them
-  pub lifted : (e : Edit) → Solid e → {free left : Bytes} {r : Altered} → free ≡ drop taken work → Alters e 0 r free left
+  pub lifted : (e : Edit) {free left : Bytes} {r : Altered} → free ≡ drop taken work → Alters e 0 r free left → IfOk r (λ n. 0 < n)
       → Alters e used (behind used r) work (take taken work ++ left)
   unfolding Writing.put
-  lifted e s {free} {left} {r} f h = rw (h.0, h.1, f) (go e s)
+  lifted e {free} {left} {r} f h s = rw (h.0, h.1, f) (go e (rw (h.0, f) at s))
     where
       rest : take taken work ++ drop taken work ≡ work
       rest = take-append-drop taken work
 
-      made : (b : Bytes) → 0 < length b
+      made : (b : Bytes) → IfOk (pick (leb (0 + length b) (length (drop taken work))) (Ok (0 + length b)) (Err Full)) (λ n. 0 < n)
           → (behind used (pick (leb (0 + length b) (length (drop taken work))) (Ok (0 + length b)) (Err Full)) ≡ pick (leb (used + length b) (length work)) (Ok (used + length b)) (Err Full))
           × (take taken work ++ Writing.put 0 b (drop taken work) ≡ Writing.put used b work)
       made b s =
           let l : length (drop taken work) ≡ length work - taken = length-drop taken work in
           ⊎_elim
           (λ (k : 0 + length b ≤ length (drop taken work)).
+          let some : 0 < 0 + length b = rw (le-leb (0 + length b) (length (drop taken work)) k) at s in
           let i : taken ≡ used = omega arith in
           let j : used + (0 + length b) ≡ used + length b = omega arith in
           let d : drop (0 + length b) (drop used work) ≡ drop (used + length b) work = drop-drop (0 + length b) used work ∙ ap (λ (x : ℕ). drop x work) j in
@@ -76,11 +72,30 @@ module _ (used : ℕ) (work : Bytes) where
           rw (lt-leb (0 + length b) (length (drop taken work)) k, rest, lt-leb (used + length b) (length work) (omega arith)) (refl, refl))
           (either (0 + length b) (length (drop taken work)))
 
-      go : (e : Edit) → Solid e → Alters e used (behind used (altered_by e 0 (drop taken work))) work (take taken work ++ work_by e 0 (drop taken work))
+      go : (e : Edit) → IfOk (altered_by e 0 (drop taken work)) (λ n. 0 < n) → Alters e used (behind used (altered_by e 0 (drop taken work))) work (take taken work ++ work_by e 0 (drop taken work))
       go (refuse k) s = (refl, rest)
       go (add g b) s = (refl, rest)
       go (cut g m) s = (refl, rest)
       go (put g b) s =
-          ⊎_elim (λ (m : length b ≤ max_tuple). rw (le-leb (length b) max_tuple m) (made b s))
+          ⊎_elim (λ (m : length b ≤ max_tuple). rw (le-leb (length b) max_tuple m) (made b (rw (le-leb (length b) max_tuple m) at s)))
           (λ (m : max_tuple < length b). rw (lt-leb (length b) max_tuple m) (refl, rest))
           (either (length b) max_tuple)
+
+-- bytes in use that are past the end are none
+take_most : (used : ℕ) (work : Bytes) → take (min used (length work)) work ≡ take used work
+take_most used work =
+    ⊎_elim (λ (h : used ≤ length work). let e : min used (length work) ≡ used = omega arith in rw e)
+    (λ (h : length work < used). let e : min used (length work) ≡ length work = omega arith in rw e (take-length work ∙ sym (take_all used work (omega arith))))
+    (either used (length work))
+
+-- a change of the field at a place, which was read in the bytes in use
+module _ (t l work : Bytes) (used old e : ℕ) (x : Change) {at size u : ℕ} {front back : Bytes}
+    (i : at ≡ start_of old) (j : size ≡ length_of old) (m : u ≡ min used (length work)) (f : front ≡ take u work) (b : back ≡ drop u work) where
+  pub at_place : {r : Altered} {left : Bytes} → Alters (changed l x e (bytes_from t l front at size)) 0 r back left → IfOk r (λ n. 0 < n)
+      → Alters (changed l x e (bytes_at t l (take used work) old)) used (behind used r) work (front ++ left)
+  unfolding bytes_at
+  at_place h s =
+      let q : front ≡ take (min used (length work)) work = f ∙ ap (λ (n : ℕ). take n work) m in
+      let p : front ≡ take used work = q ∙ take_most used work in
+      let g = lifted used work (changed l x e (bytes_from t l front at size)) (b ∙ ap (λ (n : ℕ). drop n work) m) h s in
+      rw (← i, ← j, ← p) (rw (← q) at g)

@@ -1,7 +1,7 @@
 -- Spliced strings: where the old one stands, how its pieces are copied, and what they make. Assumes nothing.
 use Rattle.std.specs.Prelude.{Some, None, Ok, Err, Option}
-use mathlib.Core.Path.{◌≡◌, refl, sym, ap, ◌∙◌, subst}
-use mathlib.Core.List.{[], ◌∷◌, ◌++◌, append_assoc}
+use mathlib.Core.Path.{◌≡◌, refl, sym, ap, ◌∙◌}
+use mathlib.Core.List.{[], ◌∷◌, ◌++◌}
 use mathlib.Core.Logic.{⊎_elim}
 use mathlib.Core.Option.{some}
 use Prim.Native.Nat.{ℕ, ◌+◌, ◌-◌, ◌<◌, ◌≤◌}
@@ -140,3 +140,6 @@ module _ {p k : ℕ} {argument field : Bytes} {a e after rest : ℕ} (cut : Cut 
 
     pub splice-put : length (string_header n) + n ≤ length work → {r : ℕ} {left : Bytes} → Writes 0 whole r work left → Splices (Ok r) left
     splice-put i w = let l = cut.long in rw (← cut.edit) (put_is whole work 0 (omega arith) (omega arith) w)
+
+  pub splice_some : length (string_header n) + n ≤ length work → {r : ℕ} {left : Bytes} → Writes 0 whole r work left → 0 < r
+  splice_some i w = let l = cut.long in let e = (wrote work 0 whole w (omega arith)).end in let h = cut.header in omega arith

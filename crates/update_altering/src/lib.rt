@@ -2,14 +2,15 @@
 // bytes of a work array that are in use.
 #![tactic(auto)]
 
-ghost use Rattle.std.specs.Prelude.{◌≡◌, [], ◌∷◌, ◌++◌, ◌+◌, ◌^◌, ◌<◌, ◌≤◌, length, take};
+ghost use Rattle.std.specs.Prelude.{◌≡◌, [], ◌∷◌, ◌++◌, ◌+◌, ◌^◌, ◌<◌, length, take, IfOk};
 ghost use Rattle.msgpack_writing.specs.Forms.{string_form};
 ghost use Rattle.msgpack_read_back.specs.Claims.{integer_form, InRange};
 ghost use Rattle.tuples.specs.Operation.{splice};
 ghost use Rattle.tuples.specs.Edit.{put, edit_at};
-ghost use Rattle.update_places.specs.Place.{bytes_at};
+ghost use Rattle.update_places.specs.Place.{bytes_from, bytes_at};
 ghost use Rattle.update_altering.specs.Altering.{changed, altered_by, work_by, Alters};
 ghost use Rattle.update_altering.specs.Splicing.{Fits, Writes};
+ghost use Rattle.update_altering.specs.declared.Obstacle.TheVariants.{Refused};
 
 use msgpack_scalars::Int;
 use tuples::{MAX_TUPLE, Refusal};
@@ -25,9 +26,9 @@ pub enum Obstacle {
 
 // A refusal is an obstacle, so that `?` passes it on as one.
 impl From<Refusal> for Obstacle {
-    fn from(refusal: Refusal) -> Obstacle
-        ensures { result ≡ Obstacle.Refused refusal }
-    {
+    ghost from_gives = { λ refusal obstacle. obstacle ≡ Refused refusal };
+
+    fn from(refusal: Refusal) -> Obstacle {
         Obstacle::Refused(refusal)
     }
 }
@@ -47,7 +48,8 @@ fn write_number(z: Int, out: &mut [u8]) -> usize
 // A number in its shortest form, which is never empty: nothing is written only where it has no room.
 fn put_number(z: Int, out: &mut [u8]) -> Altered
     requires { InRange z }
-    ensures { Alters (put 0 (integer_form z)) 0 result out.old out.new }
+    ensures edit { Alters (put 0 (integer_form z)) 0 result out.old out.new }
+    ensures some { IfOk result (λ n. 0 < n) }
 {
     let end = write_number(z, out);
     if end == 0 {
@@ -71,7 +73,8 @@ fn put_string(first: &[u8], second: &[u8], third: &[u8], out: &mut [u8]) -> usiz
 // `:` of the string that is a field.
 fn splice(field: &[u8], position: usize, count: usize, argument: &[u8], out: &mut [u8]) -> Altered
     requires { length field.now < 2 ^ 15 }
-    ensures { Alters (edit_at (splice position count argument.now) 0 (field.now ∷ [])) 0 result out.old out.new }
+    ensures edit { Alters (edit_at (splice position count argument.now) 0 (field.now ∷ [])) 0 result out.old out.new }
+    ensures some { IfOk result (λ n. 0 < n) }
 {
     let (from, to) = update_parts::string_at(field, 0).ok_or(Refusal::Unsuited)?;
     let after = (to - from).saturating_sub(position);
@@ -91,6 +94,22 @@ fn splice(field: &[u8], position: usize, count: usize, argument: &[u8], out: &mu
     Ok(put_string(&field[from..from + n], argument, &field[to - rest..to], out))
 }
 
+// What a change makes of the field of so many bytes that stands at `at`: in the free bytes of the work array alone.
+fn changed(sources: Sources, at: usize, size: usize, change: Change, end: usize, free: &mut [u8]) -> Altered
+    requires { size < 2 ^ 15 }
+    ensures edit { Alters (changed sources.entry.list.now change end (bytes_from sources.entry.tuple.now sources.entry.list.now sources.entry.work.now at size)) 0 result free.old free.new }
+    ensures some { IfOk result (λ n. 0 < n) }
+{
+    match change {
+        Change::Sum(minus, v) => put_number(update_computing::sum_of(sources, at, size, v, minus)?, free),
+        Change::Bits(by, v) => put_number(update_computing::bits_of(sources, at, size, v, by)?, free),
+        Change::Splice(position, count, start) => {
+            let argument = update_parts::bytes_of(sources.list, start, end);
+            splice(sources.bytes(at, size), position as usize, count as usize, argument, free)
+        }
+    }
+}
+
 // What a change of an operation that ends at `end` makes of the field at the place `old`.
 pub fn alter(
     tuple: &[u8],
@@ -104,18 +123,16 @@ pub fn alter(
     ensures { (result ≡ altered_by (changed list.now change end (bytes_at tuple.now list.now (take used work.old) old)) used work.old)
         × (work.new ≡ work_by (changed list.now change end (bytes_at tuple.now list.now (take used work.old) old)) used work.old) }
 {
-    let at = update_places::start_of(old);
-    let size = update_places::length_of(old);
     let taken = used.min(work.len());
     let (work, free) = work.split_at_mut(taken);
     let sources = Sources { tuple, list, work };
-    let made = match change {
-        Change::Sum(minus, v) => put_number(update_computing::sum_of(sources, at, size, v, minus)?, free)?,
-        Change::Bits(by, v) => put_number(update_computing::bits_of(sources, at, size, v, by)?, free)?,
-        Change::Splice(position, count, start) => {
-            let argument = update_parts::bytes_of(list, start, end);
-            splice(sources.bytes(at, size), position as usize, count as usize, argument, free)?
-        }
-    };
+    let made = changed(
+        sources,
+        update_places::start_of(old),
+        update_places::length_of(old),
+        change,
+        end,
+        free,
+    )?;
     Ok(used + made)
 }
