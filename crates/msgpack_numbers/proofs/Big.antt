@@ -29,12 +29,16 @@ number-last (x ∷ s) b =
     let q : x * 256 ^ length s * 256 ≡ x * (256 ^ length s * 256) = mul_assoc x (256 ^ length s) 256 in
     rw (e, l, p) (omega (arith, q))
 
--- the first i + 1 bytes from a place on
+-- the first i + 1 bytes
+pub number_suc : (s : Bytes) (i : ℕ) → i < length s → number (take (i + 1) s) ≡ number (take i s) * 256 + get_or s i 0
+number_suc s i h = rw (add-one, take-suc s i 0 h, number-last)
+
+-- .. from a place on
 pub number-next : (s : Bytes) (at i : ℕ) → at + i < length s
     → number (take (i + 1) (drop at s)) ≡ number (take i (drop at s)) * 256 + get_or s (at + i) 0
 number-next s at i h =
     let d : i < length (drop at s) = simp length-drop (omega arith) in
-    rw (add-one, take-suc (drop at s) i 0, number-last, get_or-drop)
+    rw (number_suc (drop at s) i d, get_or-drop)
 
 pub grow : {n b : ℕ} (i : ℕ) → n < 2 ^ (8 * i) → b < 256 → n * 256 + b < 2 ^ (8 * (i + 1))
 grow {n} {b} i h k =

@@ -20,17 +20,9 @@ pub fn number_at(s: &[u8], at: usize, width: usize) -> Option<u64>
     if 8 < width {
         return None;
     }
-    if s.len() < width {
-        return None;
-    }
-    if s.len() - width < at {
-        return None;
-    }
     let mut n: u64 = 0;
-    let mut i: usize = 0;
-    while i < width {
-        n = appended(n, s[at + i]);
-        i += 1;
+    for &b in s.get(at..)?.get(..width)? {
+        n = appended(n, b);
     }
     Some(n)
 }

@@ -19,7 +19,6 @@ use Rattle.msgpack_numbers.specs.Number.{number}
 use Rattle.msgpack_numbers.proofs.Big.{number-first}
 use Rattle.msgpack_values.specs.Value.{shift, payload, sized, items, by_form, value, inside, Read}
 use Rattle.msgpack_values.specs.Tokens.{first_byte_entry, Width, values_of, token_of, Heads, Ones, Tells, Found}
-use Rattle.msgpack_values.specs.declared.Token.{Token}
 use Rattle.msgpack_values.specs.declared.Token.TheVariants as T
 use Rattle.msgpack_values.proofs.Laws as Laws
 

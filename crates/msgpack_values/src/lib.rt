@@ -13,6 +13,7 @@ ghost use Rattle.msgpack_values.specs.Tokens.{first_byte_entry, Width, Counts, v
 pub type Read = Result<usize, usize>;
 
 // A number that may be absent; then it is all 0.
+// Stays: a flag beside the value, the C interface.
 #[repr(C)]
 #[derive(Clone, Copy)]
 pub struct OptionalNumber {
@@ -168,11 +169,7 @@ fn container_at(s: &[u8], at: usize, e: u16, depth: usize) -> Result<Token, usiz
     if s.len() - at <= width {
         return Err(s.len());
     }
-    Ok(Token::Holds(
-        values_of(s, at, e),
-        at + 1 + width,
-        depth - 1,
-    ))
+    Ok(Token::Holds(values_of(s, at, e), at + 1 + width, depth - 1))
 }
 
 // What stands at `at`, where its first byte alone does not tell its length.
@@ -188,12 +185,6 @@ fn long_token(s: &[u8], at: usize, e: u16, depth: usize) -> Result<Token, usize>
         return Ok(Token::Headed(at, next));
     }
     Ok(Token::Past(next))
-}
-
-fn least(a: usize, b: usize) -> usize
-    ensures { (result ≤ a) × (result ≤ b) }
-{
-    if a < b { a } else { b }
 }
 
 // Whether four arrays of one begin at `at`, one in the other.
@@ -213,10 +204,7 @@ fn past_fours(s: &[u8], at: usize, stop: usize) -> usize
     ensures { (result ≤ stop) × Ones s.now at result }
 {
     let mut end = at;
-    while 4 <= stop - end {
-        if !four_ones(s, end) {
-            return end;
-        }
+    while 4 <= stop - end && four_ones(s, end) {
         end += 4;
     }
     end
@@ -227,14 +215,12 @@ fn past_ones(s: &[u8], at: usize, stop: usize) -> usize
     requires { (at ≤ stop) × (stop ≤ length s.now) }
     ensures { (result ≤ stop) × Ones s.now at result }
 {
-    let mut end = at;
-    while end < stop {
+    for end in at..stop {
         if !msgpack_first_bytes::is_array_of_one(s[end]) {
             return end;
         }
-        end += 1;
     }
-    end
+    stop
 }
 
 // What is inside the arrays of one that begin at `at`, if any do.
@@ -249,7 +235,7 @@ fn inside_ones(s: &[u8], at: usize, depth: usize, e: u16) -> Inner
             entry: e,
         };
     }
-    let stop = at + least(depth, s.len() - at);
+    let stop = at + depth.min(s.len() - at);
     let end = past_ones(s, past_fours(s, at, stop), stop);
     Inner {
         at: end,
@@ -339,16 +325,11 @@ fn same_heads(s: &[u8], at: usize, next: usize, left: usize) -> Run
     let second = s[at + 1];
     let mut end = next;
     let mut rest = left;
-    let mut more = same_head(s, end, first, second, size, rest);
-    while more {
+    while same_head(s, end, first, second, size, rest) {
         end += size;
         rest -= 1;
-        more = same_head(s, end, first, second, size, rest);
     }
-    Run {
-        end,
-        left: rest,
-    }
+    Run { end, left: rest }
 }
 
 // One value at `at`, of depth at most `depth`, read as one item. Integers and short strings, the commonest, are

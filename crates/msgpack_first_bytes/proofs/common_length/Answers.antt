@@ -1,5 +1,4 @@
 -- Each range by one computed test.
-use borrow.Author.Rules.{rules}
 use native.Mathlib.Omega.{arith}
 use Prim.Native.Nat.{◌+◌, ◌-◌, ◌*◌, ◌%◌, ◌^◌}
 use lib.Pow.{pow_mono}

@@ -1,5 +1,4 @@
 -- `form_by_ranges` is the definition `form_of`: a single byte by rewriting, a range by one computed test.
-use borrow.Author.Rules.{rules}
 use native.Mathlib.Omega.{arith}
 use Prim.Native.Nat.{◌+◌, ◌-◌, ◌*◌, ◌%◌, ◌^◌}
 use Rattle.msgpack_first_bytes.specs.FirstByte.{form_of}

@@ -1,5 +1,4 @@
 -- Each kind by its digit; other digits are no kind's.
-use borrow.Author.Rules.{rules}
 use native.Mathlib.Omega.{arith}
 use Prim.Native.Nat.{ℕ, ◌<◌}
 use lib.Dec.{leb, leb→le}

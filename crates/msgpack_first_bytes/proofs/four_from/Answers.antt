@@ -1,5 +1,4 @@
 -- Four sums, one after the other.
-use borrow.Author.Rules.{rules}
 use native.Mathlib.Omega.{arith}
 use Rattle.msgpack_first_bytes.specs.Rows.{four}
 use Rattle.msgpack_first_bytes.proofs.four_from.Goals as goal

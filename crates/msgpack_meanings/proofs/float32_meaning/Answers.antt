@@ -7,4 +7,3 @@ use Rattle.msgpack_meanings.proofs.float32_meaning.Goals as goal
 pub overflow_cast-n : goal.overflow_cast-n
 unfolding of_float32
 overflow_cast-n c = let b : c.in-Some.n < 2 ^ 32 = c.in-Some.ensures.1 in omega arith
-

@@ -15,4 +15,3 @@ scalar_meaning-requires c =
 pub bounds-s-0 : goal.bounds-s-0
 unfolding meaning
 bounds-s-0 c = let k = whole-within 16 _ _ c.requires in omega arith
-

@@ -4,7 +4,7 @@ use Rattle.std.specs.Option.{unwrap_or}
 use native.Mathlib.Omega.{arith}
 use native.Mathlib.Nat.{add-zero}
 use Prim.Native.Nat.{ℕ, ◌+◌, ◌*◌, ◌^◌, ◌<◌, ◌≤◌, max}
-use mathlib.Core.Path.{◌≡◌, sym, ◌∙◌}
+use mathlib.Core.Path.{◌≡◌}
 use lib.ListN.{length, drop}
 use lib.Seq.{get_or-drop}
 use Rattle.msgpack_first_bytes.specs.Bytes.{Bytes}

@@ -5,8 +5,6 @@ use mathlib.Core.Path.{sym, ◌∙◌}
 use lib.ListN.{length}
 use Rattle.msgpack_first_bytes.specs.FirstByte.{form_of, same_kind}
 use Rattle.msgpack_first_bytes.specs.declared.Kind.TheVariants.{Signed}
-use Rattle.msgpack_first_bytes.proofs.Logic.{error_left}
-use Rattle.msgpack_scalars.specs.Integer.{signed, signed_by}
 use Rattle.msgpack_scalars.proofs.Laws.{little, due_there}
 use Rattle.msgpack_scalars.proofs.signed_at.Goals.{In_ok-more}
 use Rattle.msgpack_scalars.proofs.signed_at.Goals as goal
@@ -26,4 +24,3 @@ overflow_add-result c = let k = there (goal.at.overflow_add-result c).In_ok-more
 
 pub overflow_add-result-2 : goal.overflow_add-result-2
 overflow_add-result-2 c = let k = there (goal.at.overflow_add-result-2 c).In_ok-more in omega arith
-

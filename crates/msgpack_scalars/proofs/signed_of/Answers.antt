@@ -1,11 +1,9 @@
 -- Two's complement, by the sign bit.
 use native.Mathlib.Omega.{arith}
-use native.Mathlib.Nat.{add-zero}
 use Prim.Native.Nat.{◌-◌, ◌*◌, ◌^◌, ◌<◌, ◌+◌, max}
-use mathlib.Core.Path.{◌≡◌, sym, ◌∙◌}
+use mathlib.Core.Path.{◌≡◌}
 use lib.Pow.{pow_pos}
 use lib.ListN.{drop}
-use lib.Seq.{get_or-drop}
 use Rattle.msgpack_scalars.specs.Integer.{natural_of, signed_of}
 use Rattle.msgpack_scalars.proofs.Laws as Laws
 use Rattle.msgpack_scalars.proofs.signed_of.Goals.{After-sign_bit-half}

@@ -14,7 +14,7 @@ module _ (c : After-past_ones-end) where
   passed = let a = c.args in joined a.s.now a.at _ _ c.past_fours.ensures.1 c.past_ones-end.ensures.1
 
   bounds : (let a = c.args in (a.at ≤ c.past_ones-end.result) × ((c.past_ones-end.result ≤ length a.s.now) × (c.past_ones-end.result ≤ a.at + a.depth)))
-  bounds = let h = passed.further in let p = c.past_ones-end.ensures.0 in let q = c.least.ensures in (h, (omega arith, omega arith))
+  bounds = let h = passed.further in let p = c.past_ones-end.ensures.0 in let q = c.min.ensures in (h, (omega arith, omega arith))
 
 pub returns : goal.returns
 returns c =

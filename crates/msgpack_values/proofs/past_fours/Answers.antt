@@ -8,13 +8,13 @@ pub loop-end-preserved : goal.loop-end-preserved
 loop-end-preserved c =
     let l = c.loop-end in
     let a = c.args in
-    (omega arith, joined a.s.now a.at l.end (l.end + 4) l.invariant.1 (c.four_ones.ensures c.if-not-four_ones.false))
+    (omega arith, joined a.s.now a.at l.end (l.end + 4) l.invariant.1 (c.four_ones.ensures c.if-four_ones.true))
 
 pub loop-end-init : goal.loop-end-init
 loop-end-init c = let a = c.args in (c.requires.0, no_ones a.s.now a.at)
 
-pub returns-then-not-four_ones : goal.returns-then-not-four_ones
-returns-then-not-four_ones c = c.loop-end.invariant
+pub returns-else-four_ones : goal.returns-else-four_ones
+returns-else-four_ones c = c.loop-end.invariant
 
-pub returns : goal.returns
-returns c = c.loop-end.invariant
+pub returns-after-loop-end : goal.returns-after-loop-end
+returns-after-loop-end c = c.loop-end.invariant
