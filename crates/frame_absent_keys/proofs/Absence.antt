@@ -49,7 +49,7 @@ rule_in [] k = none
 rule_in (x ∷ xs) k = pick (eqb k x.key) (some x.rule) (rule_in xs k)
 
 rule-suits : (xs : List Line) (s : Bytes) (f : ℕ → Place) (k : ℕ) (r : Rule) → suited xs s f ≡ true → rule_in xs k ≡ some r → suits r (held_at r s (f k)) ≡ true
-unfolding suited all rule_in
+unfolding suited rule_in
 rule-suits [] s f k r h e = impossible cc
 rule-suits (x ∷ xs) s f k r h e = let b = both _ _ h in go (eqb k x.key) refl b.0 (rule-suits xs s f k r b.1) e
   where
@@ -74,7 +74,7 @@ optional_counts (some n) = refl
 -- ---- no code requires it
 
 needed-nowhere : (k c : ℕ) (xs : List Code) → all (λ (x : Code). not (has k x.needs)) xs ≡ true → given false (among c xs) (has k) ≡ false
-unfolding all among given
+unfolding among given
 needed-nowhere k c [] h = refl
 needed-nowhere k c (x ∷ xs) h = let b = both _ _ h in go (eqb c x.code) (not-true _ b.0) (needed-nowhere k c xs b.1)
   where
@@ -174,7 +174,7 @@ unfolding frame_at rule_in body_items locate
 base = record { most = max_base; shows = λ c s f g. refl; rule = refl; holds = λ r s. refl }
 
 pub absent-keys : AbsentKeys
-unfolding all has codes
+unfolding has codes
 absent-keys =
     record {
       index = may_be_absent index refl refl;

@@ -56,19 +56,19 @@ of_others a b c p = rw (← p) (go a b c)
 
 module _ (r : Frame) where
   select-fewer : r.code ≡ 0x01 → Fewer r
-  unfolding required_before required is_error among codes leaves_out all
+  unfolding required_before required is_error among codes leaves_out
   select-fewer e =
       known (0x10 ∷ 0x11 ∷ 0x12 ∷ 0x13 ∷ 0x14 ∷ 0x20 ∷ []) (0x10 ∷ 0x12 ∷ 0x20 ∷ []) (rw e) (rw e)
       (λ p g. rw e (of_select (p 0x10) (p 0x11) (p 0x12) (p 0x13) (p 0x14) (p 0x20) g.index g.offset g.iterator))
 
   update-fewer : r.code ≡ 0x04 → Fewer r
-  unfolding required_before required is_error among codes leaves_out all
+  unfolding required_before required is_error among codes leaves_out
   update-fewer e =
       known (0x10 ∷ 0x11 ∷ 0x20 ∷ 0x21 ∷ []) (0x10 ∷ 0x20 ∷ 0x21 ∷ []) (rw e) (rw e)
       (λ p g. rw e (of_others (p 0x10) (p 0x11) (p 0x20 && (p 0x21 && true)) g.index))
 
   delete_fewer : r.code ≡ 0x05 → Fewer r
-  unfolding required_before required is_error among codes leaves_out all
+  unfolding required_before required is_error among codes leaves_out
   delete_fewer e =
       known (0x10 ∷ 0x11 ∷ 0x20 ∷ []) (0x10 ∷ 0x20 ∷ []) (rw e) (rw e) (λ p g. rw e (of_others (p 0x10) (p 0x11) (p 0x20 && true) g.index))
 

@@ -10,6 +10,7 @@ use lib.ListN.{length, take, drop, length-drop, drop_of_length-le}
 use lib.Seq.{drop-cons}
 use Rattle.msgpack_first_bytes.specs.Bytes.{Bytes, pick}
 use Rattle.msgpack_values.specs.Value.{shift, value, Read}
+use Rattle.msgpack_values.specs.Spoiled.{place_of, spoiled_at}
 use Rattle.msgpack_values.proofs.Local.{shift-whole, value_good, value_pos}
 use Rattle.msgpack_first_bytes.proofs.Logic.{impossible}
 use Rattle.frames.specs.declared.FrameAnswer.{FrameAnswer}
@@ -17,29 +18,10 @@ use Rattle.frames.specs.Limits.{max_size, max_depth, held_depth}
 use Rattle.frames.specs.Maps.{entries_at}
 use Rattle.frames.specs.Cascade.{check, whole}
 use Rattle.frames.proofs.Sizes.{Told, size_told}
-use Rattle.frames.specs.Reading.{refuse, broken, by_entries, body_value, body_entries, in_frame, size_by, size_of, by_size, frame_read}
-use Rattle.frame_reading.specs.Steps.{body_at, entries_in}
-
--- ---- the body's place
-
-pub body_there : (s : Bytes) (at from : ℕ) → Some from ≡ body_at s at → (at < length s) × (from ≡ at)
-unfolding body_at
-body_there s at from e = go (ltb at (length s)) refl e
-  where
-    go : (b : Bool) → ltb at (length s) ≡ b → Some from ≡ pick b (Some at) None → (at < length s) × (from ≡ at)
-    go true q e = (ltb-true at (length s) q, cc)
-    go false q e = impossible cc
-
-pub body_missing : (s : Bytes) (at : ℕ) → None ≡ body_at s at → length s ≤ at
-unfolding body_at
-body_missing s at e = go (ltb at (length s)) refl e
-  where
-    go : (b : Bool) → ltb at (length s) ≡ b → None ≡ pick b (Some at) None → length s ≤ at
-    go true q e = impossible cc
-    go false q e = ltb-false at (length s) q
-
-pub moved : (r : Read) (s : Bytes) (from at : ℕ) → from ≡ at → r ≡ shift from (value max_depth (drop from s)) → r ≡ shift at (value max_depth (drop at s))
-moved r s from at e h = rw e at h
+use Rattle.frames.specs.Reading.{refuse_at, refuse, broken, by_entries, body_value, body_entries, in_frame, size_by, size_of, by_size, frame_read}
+use Rattle.frame_reading.specs.Steps.{answer_of, whole_by, whole_at, entries_in}
+use Rattle.frame_reading.specs.declared.Refusal.{Refusal}
+use Rattle.frame_reading.specs.declared.Refusal.TheVariants.{Broken}
 
 -- ---- header and body
 
@@ -63,6 +45,24 @@ unshifted s at p h = go (value max_depth (drop at s)) refl h
     go : (r : Read) → value max_depth (drop at s) ≡ r → Err p ≡ shift at r → (q : ℕ) × (value max_depth (drop at s) ≡ Err q)
     go (Ok n) e h = impossible cc
     go (Err q) e h = (q, e)
+
+-- what a step answers: the end of a whole value, or 4 with the place that spoils it
+pub ended : (s : Bytes) (at end : ℕ) → Ok end ≡ whole_at s at → Ok end ≡ shift at (value max_depth (drop at s))
+unfolding whole_at whole_by
+ended s at end e = go (shift at (value max_depth (drop at s))) e
+  where
+    go : (r : Read) → Ok end ≡ whole_by r → Ok end ≡ r
+    go (Ok k) e = cc
+    go (Err p) e = impossible cc
+
+pub not_ended : (s : Bytes) (at n : ℕ) (e : Refusal) → Err e ≡ whole_at s at
+    → ((p : ℕ) × (Err p ≡ shift at (value max_depth (drop at s)))) × (answer_of n (Err e) ≡ broken s at)
+unfolding whole_at whole_by broken spoiled_at answer_of
+not_ended s at n e q = go (shift at (value max_depth (drop at s))) q
+  where
+    go : (r : Read) → Err e ≡ whole_by r → ((p : ℕ) × (Err p ≡ r)) × (answer_of n (Err e) ≡ refuse_at 4 (place_of r))
+    go (Ok k) q = impossible cc
+    go (Err p) q = let z : e ≡ Broken (place_of (Err p)) = cc in ((p, refl), rw z)
 
 module _ (s : Bytes) (at : ℕ) where
   pub no_header : (p : ℕ) → Err p ≡ shift at (value max_depth (drop at s)) → broken s at ≡ in_frame s at

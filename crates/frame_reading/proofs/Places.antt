@@ -1,5 +1,5 @@
 -- 6 to 10: what the tables and look-ups say of the cascade. Assumes nothing.
-use Rattle.std.specs.Prelude.{Some, None, Option}
+use Rattle.std.specs.Prelude.{Option as Maybe, Some, None, Result, Ok, Err}
 use mathlib.Core.Path.{◌≡◌, refl, sym, ap, ap₂, ◌∙◌}
 use mathlib.Core.List.{List}
 use mathlib.Core.Bool.{Bool, true, false, ◌&&◌, ◌||◌}
@@ -21,10 +21,15 @@ use Rattle.frames.specs.Maps.{Entry, entries_at, keys, distinct}
 use Rattle.frames.specs.Cascade.{check, given}
 use Rattle.frames.specs.Reading.{refuse, accept, suited, by_places, by_entries}
 use Rattle.msgpack_first_bytes.proofs.Logic.{impossible}
-use Rattle.frame_tables.specs.Tables.{Table, table, empty_table, laid_all, tabled_on, tabled, place_in}
+use Rattle.frame_tables.specs.Tables.{no_value, number_of, Table, table, empty_table, laid_all, tabled_on, tabled, place_in}
+use Rattle.frame_tables.specs.declared.Value.{Value}
+use Rattle.frame_tables.specs.declared.Untabled.{Untabled}
+use Rattle.frame_tables.specs.declared.Untabled.TheVariants.{NoMap as No, Twice as Again}
+use Rattle.frame_reading.specs.declared.Refusal.{Refusal}
+use Rattle.frame_reading.specs.declared.Refusal.TheVariants.{NoMap, Twice}
 use Rattle.frame_tables.proofs.Entries.{AllFit, nil, all_fit}
-use Rattle.frame_tables.proofs.Found.{places-found, number-found, tabled-room}
-use Rattle.frame_reading.specs.Steps.{entries_in}
+use Rattle.frame_tables.proofs.Found.{places-found, number-found}
+use Rattle.frame_reading.specs.Steps.{answer_of, both_tabled, entries_in}
 
 differ : {A : Type 0} → true ≡ false → A
 differ e = impossible cc
@@ -67,8 +72,8 @@ module _ {s : Bytes} {f g : ℕ → Place} {c : ℕ} {ks : List ℕ} {b : Bool} 
     unfolding by_places given check
     not_all_there q = rw (j.coded, j.known, ← j.nine, e, ← h, q)
 
-    pub accepted : t ≡ true → {r : Frame} → r ≡ frame_at c s f g → ◌≡◌ {A = FrameAnswer} (record { number = 0; length = length s; frame = r; place = no_place }) (by_places required s f g)
-    unfolding by_places given check accept
+    pub accepted : t ≡ true → {r : Frame} → r ≡ frame_at c s f g → accept (length s) r ≡ by_places required s f g
+    unfolding by_places given check
     accepted q p = rw (j.coded, j.known, ← j.nine, e, ← h, q, p)
 
 -- ---- 6 and 7
@@ -78,7 +83,7 @@ unfoldable pub judged : Bytes → Table → Table → FrameAnswer
 judged s h b =
     pick (eqb h.number 6 || eqb b.number 6) (refuse 6)
     (pick (eqb h.number 7 || eqb b.number 7) (refuse 7)
-    (by_places required s (place_in h.starts h.lengths) (place_in b.starts b.lengths)))
+    (by_places required s (place_in h.values) (place_in b.values)))
 
 -- the entries that a table was made of can all be held by it
 abbrev pub Holds : Bytes → Option (List Entry) → Type 0
@@ -113,22 +118,39 @@ holds s at = go (entries_at held_depth s at) refl
     go none e = tt
     go (some es) e = all_fit held_depth s at es e
 
-body_holds : (s : Bytes) (b : (Option ℕ)) → Holds s (entries_in s b)
+body_holds : (s : Bytes) (b : Maybe ℕ) → Holds s (entries_in s b)
 unfolding entries_in
 body_holds s None = nil
 body_holds s (Some at) = holds s at
 
--- laid into a table of zeros
+-- laid into an empty table
 abbrev pub fresh : Option (List Entry) → Table
-fresh o = tabled_on (table 0 (replicate 128 0) (replicate 128 0)) o
+fresh o = tabled_on (table 0 (replicate 128 no_value)) o
 
-pub long : {n : ℕ} {f g : List ℕ} (o : Option (List Entry)) → table n f g ≡ fresh o → (128 ≡ length f) × (128 ≡ length g)
-unfolding empty_table
-long o p =
-    let r = tabled-room o in
-    (sym (ap (λ (t : Table). length t.starts) p ∙ r.starts), sym (ap (λ (t : Table). length t.lengths) p ∙ r.lengths))
-
-pub told : (s : Bytes) (at : ℕ) (body : (Option ℕ)) {m n : ℕ} {f g k l : List ℕ} → table m f g ≡ fresh (entries_at held_depth s at) → table n k l ≡ fresh (entries_in s body)
-    → judged s (table m f g) (table n k l) ≡ by_entries s (entries_at held_depth s at) (entries_in s body)
+pub told : (s : Bytes) (at : ℕ) (body : Maybe ℕ) {m n : ℕ} {f g : List Value} → table m f ≡ fresh (entries_at held_depth s at) → table n g ≡ fresh (entries_in s body)
+    → judged s (table m f) (table n g) ≡ by_entries s (entries_at held_depth s at) (entries_in s body)
 unfolding empty_table
 told s at body p q = ap₂ (judged s) p q ∙ judged-entries s _ _ (holds s at) (body_holds s body)
+
+-- the answers of both tables say so
+pub both_told : (s : Bytes) (x y : Result (Unit {0}) Untabled) (f g : List Value) (u : Unit {0}) → both_tabled x y ≡ Ok u
+    → by_places required s (place_in f) (place_in g) ≡ judged s (table (number_of x) f) (table (number_of y) g)
+unfolding judged
+both_told s (Ok a) (Ok b) f g u e = refl
+both_told s (Ok a) (Err No) f g u e = impossible cc
+both_told s (Ok a) (Err Again) f g u e = impossible cc
+both_told s (Err No) y f g u e = impossible cc
+both_told s (Err Again) (Ok b) f g u e = impossible cc
+both_told s (Err Again) (Err No) f g u e = impossible cc
+both_told s (Err Again) (Err Again) f g u e = impossible cc
+
+pub refusal_told : (s : Bytes) (x y : Result (Unit {0}) Untabled) (f g : List Value) (e : Refusal) → both_tabled x y ≡ Err e
+    → answer_of (length s) (Err e) ≡ judged s (table (number_of x) f) (table (number_of y) g)
+unfolding judged answer_of
+refusal_told s (Ok a) (Ok b) f g e q = impossible cc
+refusal_told s (Ok a) (Err No) f g e q = let z : NoMap ≡ e = cc in rw (← z)
+refusal_told s (Ok a) (Err Again) f g e q = let z : Twice ≡ e = cc in rw (← z)
+refusal_told s (Err No) y f g e q = let z : NoMap ≡ e = cc in rw (← z)
+refusal_told s (Err Again) (Ok b) f g e q = let z : Twice ≡ e = cc in rw (← z)
+refusal_told s (Err Again) (Err No) f g e q = let z : NoMap ≡ e = cc in rw (← z)
+refusal_told s (Err Again) (Err Again) f g e q = let z : Twice ≡ e = cc in rw (← z)

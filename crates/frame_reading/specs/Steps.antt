@@ -9,6 +9,8 @@ use Rattle.frames.specs.declared.FrameAnswer.{FrameAnswer}
 use Rattle.frames.specs.Limits.{max_depth, held_depth}
 use Rattle.frames.specs.Maps.{Entry, entries_at}
 use Rattle.frames.specs.Reading.{refuse_at, refuse, accept}
+use Rattle.frame_tables.specs.declared.Untabled.{Untabled}
+use Rattle.frame_tables.specs.declared.Untabled.TheVariants.{NoMap as No, Twice as Again}
 use Rattle.frame_reading.specs.declared.Refusal.{Refusal}
 use Rattle.frame_reading.specs.declared.Refusal.TheVariants.{Broken, Followed, NoMap, Twice, NoCode, Unsuited, Absent}
 
@@ -22,6 +24,16 @@ answer_of n (Err Twice) = refuse 7
 answer_of n (Err NoCode) = refuse 8
 answer_of n (Err Unsuited) = refuse 9
 answer_of n (Err Absent) = refuse 10
+
+-- 6 of the header or the body, else 7 of either
+abbrev pub both_tabled : Result (Unit {0}) Untabled → Result (Unit {0}) Untabled → Result (Unit {0}) Refusal
+both_tabled (Err No) y = Err NoMap
+both_tabled (Ok u) (Err No) = Err NoMap
+both_tabled (Ok u) (Err Again) = Err Twice
+both_tabled (Ok u) (Ok v) = Ok v
+both_tabled (Err Again) (Err No) = Err NoMap
+both_tabled (Err Again) (Err Again) = Err Twice
+both_tabled (Err Again) (Ok v) = Err Twice
 
 -- the end of the value at a place, or 4 with the place that spoils it
 unfoldable pub whole_by : Read → Result ℕ Refusal

@@ -8,7 +8,7 @@ ghost use Rattle.frames.specs.Limits.{held_depth};
 ghost use Rattle.frames.specs.Maps.{entries_at};
 ghost use Rattle.frames.specs.Reading.{refuse_at, refuse, by_places, by_entries, in_frame, size_of, frame_read};
 ghost use Rattle.frame_tables.specs.Tables.{place_in};
-ghost use Rattle.frame_reading.specs.Steps.{answer_of, whole_at, entries_in};
+ghost use Rattle.frame_reading.specs.Steps.{answer_of, both_tabled, whole_at, entries_in};
 
 use frame_tables::{KEYS, NO_VALUE, Untabled, Value};
 use frames::{Frame, FrameAnswer, Size};
@@ -70,6 +70,7 @@ pub fn refused(number: u32) -> FrameAnswer
     refused_at(number, NO_PLACE)
 }
 
+#[tactic(auto, unfolding(crate::specs::Steps::answer_of, frames::specs::Reading::accept))]
 // What C is told of the contents of `length` bytes.
 fn answer_of(length: usize, read: Result<Frame, Refusal>) -> FrameAnswer
     ensures { result ≡ answer_of length read }
@@ -112,6 +113,17 @@ fn by_places(s: &[u8], header: &[Value], body: &[Value]) -> Result<Frame, Refusa
     Ok(frame_fields::frame_of(code.value, s, header, body))
 }
 
+// 6 of either comes before 7 of either.
+fn both_tabled(header: Result<(), Untabled>, body: Result<(), Untabled>) -> Result<(), Refusal>
+    ensures { result ≡ both_tabled header body }
+{
+    match (header, body) {
+        (Err(Untabled::NoMap), _) | (_, Err(Untabled::NoMap)) => Err(Refusal::NoMap),
+        (Err(Untabled::Twice), _) | (_, Err(Untabled::Twice)) => Err(Refusal::Twice),
+        (Ok(()), Ok(())) => Ok(()),
+    }
+}
+
 // 6 to 10: 6 and 7 over the header and then the body; a missing body counts as an empty map. The tables are made here alone, and lent.
 fn judge(s: &[u8], at: usize, body_at: Option<usize>) -> Result<Frame, Refusal>
     ensures { answer_of (length s.now) result ≡ by_entries s.now (entries_at held_depth s.now at) (entries_in s.now body_at) }
@@ -123,14 +135,11 @@ fn judge(s: &[u8], at: usize, body_at: Option<usize>) -> Result<Frame, Refusal>
         Some(from) => frame_tables::table_at(s, from, &mut body),
         None => Ok(()),
     };
-    match (header_tabled, body_tabled) {
-        (Err(Untabled::NoMap), _) => Err(Refusal::NoMap),
-        (_, Err(Untabled::NoMap)) => Err(Refusal::NoMap),
-        (Ok(()), Ok(())) => by_places(s, &header, &body),
-        _ => Err(Refusal::Twice),
-    }
+    both_tabled(header_tabled, body_tabled)?;
+    by_places(s, &header, &body)
 }
 
+#[tactic(auto, unfolding(crate::specs::Steps::whole_at, crate::specs::Steps::whole_by))]
 // The end of the value at `at`; 4 where it is broken.
 fn whole_at(s: &[u8], at: usize) -> Result<usize, Refusal>
     ensures { result ≡ whole_at s.now at }

@@ -134,7 +134,6 @@ tabled xs = distinct (item_keys xs) && (ltb (length xs) 65536 && all (λ (x : It
 
 pub ready : (xs : List Item) → all (λ (x : Item). ltb x.key 128 && narrow x.rule) xs ≡ true → all (λ (x : Item). sound x.held) xs ≡ true
     → all (λ (x : Item). suits x.rule x.held) xs ≡ true → All Ready xs
-unfolding all
 ready [] a b c = tt
 ready (x ∷ xs) a b c =
     let p = both (ltb x.key 128 && narrow x.rule) _ a in
@@ -260,7 +259,6 @@ abbrev pub suited_items : List Item → Bytes → (ℕ → Place) → Bool
 suited_items xs s f = all (λ (x : Item). suits x.rule (held_at x.rule s (f x.key))) xs
 
 pub suited-back : (s : Bytes) (f : ℕ → Place) (xs : List Item) → Backs s f xs → All Ready xs → suited_items xs s f ≡ true
-unfolding all
 suited-back s f [] h r = refl
 suited-back s f (x ∷ xs) h r = rw (h.0.reads, r.0.fit) (suited-back s f xs h.1 r.1)
 

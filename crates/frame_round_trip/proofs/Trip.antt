@@ -235,19 +235,19 @@ again-written c hs bs room large v p l =
 -- ---- the steps that name the keys: all by computation
 
 head-tabled : (r : Frame) → tabled (header_items r) ≡ true
-unfolding tabled header_items item_keys distinct has all narrow
+unfolding tabled header_items item_keys distinct has narrow
 head-tabled r = refl
 
 body-tabled : (r : Frame) (s : Bytes) → tabled (body_items r s) ≡ true
-unfolding tabled body_items item_keys distinct has all narrow
+unfolding tabled body_items item_keys distinct has narrow
 body-tabled r s = refl
 
 head-same : (r : Frame) (s : Bytes) (f : ℕ → Place) → suited header_table s f ≡ suited_items (header_items r) s f
-unfolding suited header_items all
+unfolding suited header_items
 head-same r s f = refl
 
 body_same : (r : Frame) (b s : Bytes) (g : ℕ → Place) → suited body_table s g ≡ suited_items (body_items r b) s g
-unfolding suited body_items all
+unfolding suited body_items
 body_same r b s g = refl
 
 head-shown : (r : Frame) (c : ℕ) (s : Bytes) (f g : ℕ → Place) → code_in s f ≡ some c → header_items (frame_at c s f g) ≡ reread s f (header_items r)
@@ -263,7 +263,7 @@ unfolding header_items locate
 head_coded r = refl
 
 code-small : (r : Frame) → all (λ (x : Item). suits x.rule x.held) (header_items r) ≡ true → r.code < 2 ^ 64
-unfolding header_items all suits
+unfolding header_items suits
 code-small r h = let l = leb-true r.code max64 (both (leb r.code max64) _ h).0 in omega arith
 
 -- ---- the theorem

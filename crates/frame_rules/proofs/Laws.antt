@@ -1,4 +1,5 @@
 -- What the answers below say of the codes and of the tables. Assumes nothing.
+use Rattle.std.specs.Prelude.{Some, None}
 use mathlib.Core.Path.{◌≡◌, refl, sym, ap, ◌∙◌}
 use mathlib.Core.List.{List, [], ◌∷◌}
 use mathlib.Core.Bool.{true, false, ◌&&◌}
@@ -14,13 +15,9 @@ use Rattle.frames.specs.Codes.{codes, among, is_error, required}
 use Rattle.frames.specs.Keys.{all_lines}
 use Rattle.frames.specs.Limits.{known_keys}
 use Rattle.msgpack_first_bytes.proofs.Logic.{impossible}
-use Rattle.frame_rules.specs.Needs.{line_at, no_line}
+use Rattle.frame_rules.specs.Needs.{answer, needs_of, line_at, no_line}
 
 -- ---- 8 and 10
-
-pub error_code : (c : ℕ) → 0x8000 ≤ c → c < 0x9000 → required c ≡ some (0x31 ∷ [])
-unfolding required is_error
-error_code c h k = rw (le-leb 0x8000 c h, le-leb c 0x8fff (omega arith))
 
 no_error : (c : ℕ) → (c < 0x8000) ⊎ (0x8fff < c) → (leb 0x8000 c && leb c 0x8fff) ≡ false
 no_error c (inl h) = rw (lt-leb 0x8000 c h)
@@ -51,6 +48,23 @@ unknown_code c e ((((((((((((_, n0), n1), n2), n3), n4), n5), n6), n7), n8), n9)
       ne_eqb c 0x00 n0,
     )
 
+-- what the answer says of the definition
+pub code_unknown : (c : ℕ) → None ≡ needs_of c → required c ≡ none
+unfolding needs_of answer
+code_unknown c e = go (required c) e
+  where
+    go : (o : Option (List ℕ)) → None ≡ answer o → o ≡ none
+    go none q = refl
+    go (some ks) q = impossible cc
+
+pub code_known : (c : ℕ) (ks : List ℕ) → Some ks ≡ needs_of c → required c ≡ some ks
+unfolding needs_of answer
+code_known c ks e = go (required c) e
+  where
+    go : (o : Option (List ℕ)) → Some ks ≡ answer o → o ≡ some ks
+    go none q = impossible cc
+    go (some l) q = ap some cc
+
 -- ---- 9
 
 -- none of 0 to n - 1, as a match leaves it: the first innermost
@@ -61,7 +75,3 @@ NoneBelow (suc n) i = NoneBelow n i × (i ≡ n → ⊥)
 pub none_below : (n i : ℕ) → NoneBelow n i → n ≤ i
 none_below zero i h = omega arith
 none_below (suc n) i h = let k = none_below n i h.0 in let z : i ≡ n → ⊥ = h.1 in omega arith
-
-pub line_past : (i : ℕ) → NoneBelow known_keys i → line_at i ≡ no_line
-unfolding line_at
-line_past i h = get_or-eq_default all_lines no_line {n = i} (none_below known_keys i h)

@@ -17,8 +17,8 @@ slice_bounds-read_contents-end c =
     let h = size_fits s _ _ (sym c.in-Ok.is ∙ c.read_size.ensures) in
     sym (length-take-le _ s (omega arith))
 
-pub returns-in-Refused : goal.returns-in-Refused
-returns-in-Refused c = c.refused.ensures ∙ frame_refused c.args.s.now _ _ (sym c.in-Refused.is ∙ c.read_size.ensures)
+pub returns-in-Err : goal.returns-in-Err
+returns-in-Err c = c.refused.ensures ∙ frame_refused c.args.s.now _ _ (sym c.in-Err.is ∙ c.read_size.ensures)
 
 pub returns-else-s-from : goal.returns-else-s-from
 returns-else-s-from c = c.read_contents.ensures ∙ all_come c.args.s.now _ _ (sym c.in-Ok.is ∙ c.read_size.ensures) c.if-s-from.false

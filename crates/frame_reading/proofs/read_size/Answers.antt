@@ -1,4 +1,6 @@
 -- Each way that the size number is judged.
+use Rattle.std.specs.Prelude.{Err}
+use mathlib.Core.Path.{ap, ◌∙◌}
 use Rattle.frames.specs.Reading.{size_by, size_of}
 use Rattle.frames.proofs.Front.{number-front}
 use Rattle.frame_reading.proofs.Contents.{size_none, size_large, size_is}
@@ -21,7 +23,9 @@ returns-else-n c =
     rw (number-front _ n.in-Ok.is n.unsigned_at.ensures) (size_is _ _ c.if-n-eq0.false c.if-n.false)
 
 pub returns-in-Err-Cut : goal.returns-in-Err-Cut
-returns-in-Err-Cut c = unfold size_of size_by in rw (number-front _ c.in-Err-Cut.is c.unsigned_at.ensures)
+unfolding size_of size_by
+returns-in-Err-Cut c = let e = c.in-Err-Cut in rw (number-front _ (e.is ∙ ap Err e.field-0-is) c.unsigned_at.ensures)
 
 pub returns-in-Err-Other : goal.returns-in-Err-Other
-returns-in-Err-Other c = unfold size_of size_by in rw (number-front _ c.in-Err-Other.is c.unsigned_at.ensures)
+unfolding size_of size_by
+returns-in-Err-Other c = let e = c.in-Err-Other in rw (number-front _ (e.is ∙ ap Err e.field-0-is) c.unsigned_at.ensures)
