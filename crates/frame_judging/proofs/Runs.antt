@@ -20,7 +20,9 @@ use Rattle.frame_items.specs.declared.Content.{Content}
 use Rattle.frame_items.specs.declared.Content.TheVariants.{Absent, Outside, Number, View}
 use Rattle.frame_items.specs.declared.KnownKey.{KnownKey}
 use Rattle.frame_items.proofs.Laws.{known_item}
-use Rattle.frame_judging.specs.Parts.{items_between, pair_of, pair_bytes}
+use Rattle.frame_judging.specs.Parts.{keys_of, items_of, items_between, pair_of, pair_bytes}
+use Rattle.frame_judging.specs.declared.Part.{Part}
+use Rattle.frame_judging.specs.declared.Part.TheVariants.{Header, Body}
 
 module _ (r : Frame) (s : Bytes) where
   pub header-run : items_between 0 header_keys r s ≡ header_items r
@@ -30,6 +32,10 @@ module _ (r : Frame) (s : Bytes) where
   pub body_run : items_between header_keys known_keys r s ≡ body_items r s
   unfolding items_between all_items header_items body_items
   body_run = refl
+
+  pub part-run : (p : Part) {f t : ℕ} → (f, t) ≡ keys_of p → items_between f t r s ≡ items_of p r s
+  part-run Header e = rw (ap (λ (k : ℕ × ℕ). k.0) e, ap (λ (k : ℕ × ℕ). k.1) e) header-run
+  part-run Body e = rw (ap (λ (k : ℕ × ℕ). k.0) e, ap (λ (k : ℕ × ℕ). k.1) e) body_run
 
   pub no_run : (i to : ℕ) → i ≤ to → to ≤ i → items_between i to r s ≡ []
   unfolding items_between
@@ -42,6 +48,10 @@ module _ (r : Frame) (s : Bytes) where
       slice-cons i to (all_items r s) blank h (unfold all_items header_items body_items in l)
       ∙ ap (λ (x : Item). x ∷ slice (suc i) to (all_items r s)) (sym (ap (item_of s) e ∙ known_item r s i))
       ∙ rw add-one
+
+pub part-within : (p : Part) {f t : ℕ} → (f, t) ≡ keys_of p → (f ≤ t) × (t ≤ known_keys)
+part-within Header e = let i = ap (λ (k : ℕ × ℕ). k.0) e in let j = ap (λ (k : ℕ × ℕ). k.1) e in (omega arith, omega arith)
+part-within Body e = let i = ap (λ (k : ℕ × ℕ). k.0) e in let j = ap (λ (k : ℕ × ℕ). k.1) e in (omega arith, omega arith)
 
 -- ---- 10
 

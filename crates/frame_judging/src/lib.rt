@@ -1,16 +1,22 @@
 // What the writer refuses, judged over a record: its values, their types, its required keys, its length.
 #![tactic(auto)]
 
-ghost use Rattle.std.specs.Prelude.{◌≡◌, ℕ, ◌+◌, ◌≤◌};
+ghost use Rattle.std.specs.Prelude.{◌≡◌, ℕ, ◌+◌};
 ghost use Rattle.frames.specs.Held.{all, encoded, is_some, locate};
 ghost use Rattle.frames.specs.Keys.{header_items, body_items};
-ghost use Rattle.frames.specs.Limits.{known_keys};
 ghost use Rattle.frame_items.specs.Content.{capped};
-ghost use Rattle.frame_judging.specs.Parts.{items_between};
+ghost use Rattle.frame_judging.specs.Parts.{keys_of, items_of};
 ghost use Rattle.frame_judging.specs.Judged.{judgement_of};
 
 use frame_items::KnownKey;
 use frames::{Frame, HEADER_KEYS, KNOWN_KEYS, MAX_SIZE};
+
+// The two maps of a frame.
+#[derive(Clone, Copy)]
+pub enum Part {
+    Header,
+    Body,
+}
 
 // What the writer asks of a run of known keys: 4, 9, how many pairs it writes, and how long they
 // are together, counted up to one more than a frame has.
@@ -20,6 +26,16 @@ pub struct Judgement {
     pub suited: bool,
     pub count: u32,
     pub length: usize,
+}
+
+// The known keys of a part, by their order: from one on and up to another.
+pub fn keys_of(part: Part) -> (usize, usize)
+    ensures { result ≡ keys_of part }
+{
+    match part {
+        Part::Header => (0, HEADER_KEYS),
+        Part::Body => (HEADER_KEYS, KNOWN_KEYS),
+    }
 }
 
 // Whether the body holds a key.
@@ -49,11 +65,11 @@ fn capped_sum(a: usize, b: usize) -> usize
     a.saturating_add(b).min(MAX_SIZE + 1)
 }
 
-// The keys from one on and up to another. One pass, since looking a key up takes longest.
-fn judged(frame: Frame, bytes: &[u8], from: usize, to: usize) -> Judgement
-    requires { (from ≤ to) × (to ≤ known_keys) }
-    ensures { result ≡ judgement_of (items_between from to frame bytes.now) }
+// One pass over the keys of a part, since looking a key up takes longest.
+fn judged(frame: Frame, bytes: &[u8], part: Part) -> Judgement
+    ensures { result ≡ judgement_of (items_of part frame bytes.now) }
 {
+    let (from, to) = keys_of(part);
     let mut sound = true;
     let mut suited = true;
     let mut count: u32 = 0;
@@ -71,13 +87,13 @@ fn judged(frame: Frame, bytes: &[u8], from: usize, to: usize) -> Judgement
 pub fn header_judged(frame: Frame, bytes: &[u8]) -> Judgement
     ensures { result ≡ judgement_of (header_items frame) }
 {
-    judged(frame, bytes, 0, HEADER_KEYS)
+    judged(frame, bytes, Part::Header)
 }
 
 pub fn body_judged(frame: Frame, bytes: &[u8]) -> Judgement
     ensures { result ≡ judgement_of (body_items frame bytes.now) }
 {
-    judged(frame, bytes, HEADER_KEYS, KNOWN_KEYS)
+    judged(frame, bytes, Part::Body)
 }
 
 // How long header and body are, each with a header of one byte.

@@ -82,6 +82,7 @@ fn lay(input: &[u8], out: &mut [u8], from: usize) -> usize
     let mut to: usize = 0;
     let mut at: usize = 0;
     let mut number: u64 = 1;
+    // Stays: (d) a loop with a cursor: a frame's length is known when it is read, so that no range or iterator steps from one to the next.
     loop {
         let Line { length, bytes } = first_line(&input[at..], number, &mut line);
         write_bytes(out, from + to, &line[..length]);

@@ -9,12 +9,10 @@ use Rattle.msgpack_writing.specs.Forms.{tagged, map_header}
 use Rattle.msgpack_writing.specs.Put.{put, next}
 use Rattle.msgpack_writing.proofs.Put.{Wrote, wrote, written, join, nothing, length-put}
 use Rattle.frames.specs.declared.Frame.{Frame}
-use Rattle.frames.specs.Limits.{header_keys, known_keys}
 use Rattle.frames.specs.Held.{Item}
 use Rattle.frames.specs.Keys.{header_items, body_items}
 use Rattle.frames.specs.Writing.{pairs, map_form, contents, frame_form}
-use Rattle.frame_judging.proofs.Runs.{header-run, body_run}
-use Rattle.frame_judging.specs.Parts.{items_between, pair_bytes}
+use Rattle.frame_judging.specs.Parts.{pair_bytes}
 
 -- ---- a turn of the writing loop: the first piece is written, the rest is still to come
 
@@ -63,15 +61,15 @@ map_first xs e = rw e
 
 module _ (r : Frame) (s : Bytes) where
   abbrev pub header_form : Bytes
-  header_form = map_form (pairs (items_between 0 header_keys r s))
+  header_form = map_form (pairs (header_items r))
 
   abbrev pub body_form : Bytes
-  body_form = map_form (pairs (items_between header_keys known_keys r s))
+  body_form = map_form (pairs (body_items r s))
 
   frame-first : (size : ℕ) → size ≡ length (contents (header_items r) (body_items r s))
       → frame_form (contents (header_items r) (body_items r s)) ≡ tagged 0xce 4 size ++ (header_form ++ body_form)
   unfolding frame_form contents
-  frame-first size e = rw (e, header-run r s, body_run r s)
+  frame-first size e = rw e
 
   pub size_turn : (size : ℕ) {old cur : Bytes} {a : ℕ} → size ≡ length (contents (header_items r) (body_items r s))
       → length (frame_form (contents (header_items r) (body_items r s))) ≤ length old

@@ -2,18 +2,18 @@
 #![tactic(auto)]
 
 ghost use Rattle.std.specs.Prelude.{◌≡◌, ◌∷◌, ◌+◌, ◌≤◌, length};
-ghost use Rattle.frames.specs.Limits.{known_keys};
 ghost use Rattle.frames.specs.Held.{encoded};
 ghost use Rattle.frames.specs.Keys.{header_items, body_items};
 ghost use Rattle.frames.specs.Writing.{pairs, map_form, contents, frame_form, Call, frame_write_call};
 ghost use Rattle.msgpack_writing.specs.Forms.{unsigned_form};
 ghost use Rattle.msgpack_writing.specs.Put.{put, next};
 ghost use Rattle.frame_items.specs.Content.{held_of};
-ghost use Rattle.frame_judging.specs.Parts.{items_between, pair_bytes, pair_of};
+ghost use Rattle.frame_judging.specs.Parts.{items_of, pair_bytes, pair_of};
 ghost use Rattle.frame_writing.specs.Answer.{written_of, call};
 
 use frame_items::{Content, KnownKey};
-use frames::{Frame, HEADER_KEYS, KNOWN_KEYS, MAX_SIZE, Written};
+use frame_judging::Part;
+use frames::{Frame, MAX_SIZE, Written};
 
 // Why a record is not written: there is no such code; a value is broken, or of a wrong type or range; a required key is absent;
 // the frame is too long; `out` has no room for it.
@@ -59,12 +59,13 @@ fn put_pair(out: &mut [u8], at: usize, key: u8, content: Content, bytes: &[u8]) 
     }
 }
 
-// The pairs of the keys from one on and up to another.
-fn put_pairs(out: &mut [u8], at: usize, frame: Frame, bytes: &[u8], from: usize, to: usize) -> usize
-    requires { ((from ≤ to) × (to ≤ known_keys)) × (at + length (pair_bytes (items_between from to frame bytes.now)) ≤ length out.old) }
-    ensures { (result ≡ next at (pair_bytes (items_between from to frame bytes.now)) out.old)
-        × (out.new ≡ put at (pair_bytes (items_between from to frame bytes.now)) out.old) }
+// The pairs of a part.
+fn put_pairs(out: &mut [u8], at: usize, frame: Frame, bytes: &[u8], part: Part) -> usize
+    requires { at + length (pair_bytes (items_of part frame bytes.now)) ≤ length out.old }
+    ensures { (result ≡ next at (pair_bytes (items_of part frame bytes.now)) out.old)
+        × (out.new ≡ put at (pair_bytes (items_of part frame bytes.now)) out.old) }
 {
+    let (from, to) = frame_judging::keys_of(part);
     let mut a = at;
     for i in from..to {
         let KnownKey { key, content, .. } = frame_keys::known_key(frame, bytes, i);
@@ -73,23 +74,22 @@ fn put_pairs(out: &mut [u8], at: usize, frame: Frame, bytes: &[u8], from: usize,
     a
 }
 
-// A whole map of them, with its header.
+// A part as a whole map, with its header.
 fn put_map(
     out: &mut [u8],
     at: usize,
     frame: Frame,
     bytes: &[u8],
-    from: usize,
-    to: usize,
+    part: Part,
     count: u32,
 ) -> usize
-    requires { (((from ≤ to) × (to ≤ known_keys)) × (count ≡ length (pairs (items_between from to frame bytes.now))))
-        × (at + length (map_form (pairs (items_between from to frame bytes.now))) ≤ length out.old) }
-    ensures { (result ≡ next at (map_form (pairs (items_between from to frame bytes.now))) out.old)
-        × (out.new ≡ put at (map_form (pairs (items_between from to frame bytes.now))) out.old) }
+    requires { (count ≡ length (pairs (items_of part frame bytes.now)))
+        × (at + length (map_form (pairs (items_of part frame bytes.now))) ≤ length out.old) }
+    ensures { (result ≡ next at (map_form (pairs (items_of part frame bytes.now))) out.old)
+        × (out.new ≡ put at (map_form (pairs (items_of part frame bytes.now))) out.old) }
 {
     let a = msgpack_writing::write_map_header(out, at, count);
-    put_pairs(out, a, frame, bytes, from, to)
+    put_pairs(out, a, frame, bytes, part)
 }
 
 // Size, header, body, by what was counted of them.
@@ -108,8 +108,8 @@ fn put_frame(
         × (out.new ≡ put 0 (frame_form (contents (header_items frame) (body_items frame bytes.now))) out.old) }
 {
     let a = msgpack_writing::write_tagged(out, 0, 0xce, size as u64, 4);
-    let b = put_map(out, a, frame, bytes, 0, HEADER_KEYS, header);
-    put_map(out, b, frame, bytes, HEADER_KEYS, KNOWN_KEYS, body)
+    let b = put_map(out, a, frame, bytes, Part::Header, header);
+    put_map(out, b, frame, bytes, Part::Body, body)
 }
 
 // What C is told of a call.

@@ -1,6 +1,5 @@
 -- One key after the other.
-use Rattle.frame_judging.specs.Parts.{items_between}
-use Rattle.frame_judging.proofs.Runs.{run, no_run}
+use Rattle.frame_judging.proofs.Runs.{run, no_run, part-run, part-within}
 use Rattle.frame_judging.proofs.Passes.{none_yet, next_turn, none_left}
 use native.Mathlib.Omega.{arith}
 use mathlib.Core.Path.{◌≡◌, refl, ap, ◌∙◌}
@@ -16,13 +15,14 @@ one_or_none true = (omega arith, refl)
 one_or_none false = (omega arith, refl)
 
 pub loop-i-init : goal.loop-i-init
-loop-i-init c = let a = c.args in (omega arith, none_yet (items_between a.from a.to a.frame a.bytes.now))
+loop-i-init c = (omega arith, none_yet _)
 
 pub loop-i-preserved : goal.loop-i-preserved
 loop-i-preserved c =
     let l = c.loop-i in
     let a = c.args in
-    let e = run a.frame a.bytes.now l.i a.to c.known_key-rule.ensures c.loop-i-test.true (omega arith) in
+    let k = part-within a.part c.keys_of-from.ensures in
+    let e = run a.frame a.bytes.now l.i c.keys_of-from.result.1 c.known_key-rule.ensures c.loop-i-test.true k.1 in
     let b = one_or_none c.is_written.result in (
       omega arith,
       next_turn a.bytes.now c.known_key-rule.result e l.invariant.1 c.is_sound-sound.ensures c.content_suits-suited.ensures
@@ -33,4 +33,5 @@ pub returns : goal.returns
 returns c =
     let l = c.loop-i in
     let a = c.args in
-    none_left l.invariant.1 (no_run a.frame a.bytes.now l.i a.to (omega arith) (omega arith))
+    let k = part-within a.part c.keys_of-from.ensures in
+    rw (← (part-run a.frame a.bytes.now a.part c.keys_of-from.ensures)) (none_left l.invariant.1 (no_run a.frame a.bytes.now l.i c.keys_of-from.result.1 (omega arith) (omega arith)))

@@ -1,25 +1,19 @@
 -- The size, then the two maps.
-use mathlib.Core.Path.{refl, sym, ap, ◌∙◌}
-use mathlib.Core.List.{List}
-use lib.ListN.{length}
-use Rattle.frames.specs.Held.{Item}
-use Rattle.frames.specs.Writing.{pairs}
-use Rattle.frame_judging.proofs.Runs.{header-run, body_run}
+use mathlib.Core.Path.{refl, ◌∙◌}
 use Rattle.frame_writing.proofs.Turns.{header_form, body_form, size_turn, turn_on, first-room}
-use native.Mathlib.Omega.{arith}
 use Rattle.frame_writing.proofs.put_frame.Goals as goal
 
 pub put_map-b-requires : goal.put_map-b-requires
 put_map-b-requires c =
     let a = c.args in
     let t = size_turn a.frame a.bytes.now a.size c.requires.0.0 c.requires.1 c.write_tagged-a.ensures in
-    (((omega arith, omega arith), c.requires.0.1.0 ∙ ap (λ (xs : List Item). length (pairs xs)) (sym (header-run a.frame a.bytes.now))), first-room (header_form a.frame a.bytes.now) (body_form a.frame a.bytes.now) c.write_tagged-a.result refl t.room)
+    (c.requires.0.1.0, first-room (header_form a.frame a.bytes.now) (body_form a.frame a.bytes.now) c.write_tagged-a.result refl t.room)
 
 pub put_map-requires : goal.put_map-requires
 put_map-requires c =
     let a = c.args in
     let t = size_turn a.frame a.bytes.now a.size c.requires.0.0 c.requires.1 c.write_tagged-a.ensures in
-    (((omega arith, omega arith), c.requires.0.1.1 ∙ ap (λ (xs : List Item). length (pairs xs)) (sym (body_run a.frame a.bytes.now))), (turn_on t (header_form a.frame a.bytes.now) refl c.put_map-b.ensures).room)
+    (c.requires.0.1.1, (turn_on t (header_form a.frame a.bytes.now) refl c.put_map-b.ensures).room)
 
 pub returns : goal.returns
 returns c =
