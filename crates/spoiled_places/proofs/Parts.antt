@@ -1,6 +1,8 @@
 -- What is read as a number, a string or an array is one whole value. Assumes nothing.
 use Rattle.std.specs.Prelude.{Some, None, Ok, Err}
-use mathlib.Core.Path.{◌≡◌, refl, ap, ◌∙◌}
+use Rattle.std.specs.Result.{result_ok}
+use Rattle.std.proofs.lemmas.Option.{some_pair_parts}
+use mathlib.Core.Path.{◌≡◌, refl, sym, ap, ◌∙◌}
 use mathlib.Core.Bool.{Bool, true, false}
 use mathlib.Core.List.{[], ◌∷◌}
 use Prim.Native.Nat.{ℕ, suc, ◌+◌, ◌*◌, ◌≤◌}
@@ -23,7 +25,7 @@ use Rattle.msgpack_values.specs.Value.{payload, sized, items, by_form, one, cont
 use Rattle.msgpack_values.proofs.Laws.{value-one}
 use Rattle.msgpack_scalars.specs.Start.{scalar_of, string_by, array_by, Start}
 use Rattle.msgpack_scalars.specs.Integer.{due_in, due, unsigned_by, unsigned, signed_by, signed, adding, integer, Due}
-use Rattle.msgpack_scalars.specs.Header.{counted, header}
+use Rattle.msgpack_scalars.specs.Header.{counted, header, Header}
 use Rattle.msgpack_scalars.specs.declared.Int.{Int}
 use Rattle.msgpack_scalars.specs.declared.NoNumber.TheVariants.{Cut, Other}
 
@@ -79,9 +81,9 @@ unfolding integer adding unsigned unsigned_by signed signed_by form_of same_kind
 integer-whole d s z e h = by_unsigned (due Unsigned s) refl (due Signed s) refl h
   where
     by_unsigned : (u : Due) → due Unsigned s ≡ u → (x : Due) → due Signed s ≡ x → adding (unsigned_by u s) (signed_by x s) ≡ Ok (z, e) → value d s ≡ Ok e
-    by_unsigned (Ok f) q x p h = due-whole d Unsigned tt s f q ∙ ap Ok (let i : 1 + f ≡ e = cc in i)
+    by_unsigned (Ok f) q x p h = due-whole d Unsigned tt s f q ∙ ap Ok (some_pair_parts _ _ _ _ (ap result_ok h)).1
     by_unsigned (Err Cut) q x p h = impossible cc
-    by_unsigned (Err Other) q (Ok f) p h = due-whole d Signed tt s f p ∙ ap Ok (let i : 1 + f ≡ e = cc in i)
+    by_unsigned (Err Other) q (Ok f) p h = due-whole d Signed tt s f p ∙ ap Ok (some_pair_parts _ _ _ _ (ap result_ok h)).1
     by_unsigned (Err Other) q (Err Cut) p h = impossible cc
     by_unsigned (Err Other) q (Err Other) p h = impossible cc
 
@@ -92,8 +94,8 @@ counted_is : (w f : ℕ) (s : Bytes) (n e : ℕ) → counted (Some (w, f)) s ≡
 unfolding counted
 counted_is w f s n e h = go (leb w (length s)) refl h
   where
-    go : (t : Bool) → leb w (length s) ≡ t → pick t (Some (number (take w s) + f, 1 + w)) None ≡ Some (n, e) → (w ≤ length s) × (n ≡ number (take w s) + f) × (e ≡ 1 + w)
-    go true q h = (leb-true w (length s) q, cc, cc)
+    go : (t : Bool) → leb w (length s) ≡ t → pick {A = Header} t (Some (number (take w s) + f, 1 + w)) None ≡ Some (n, e) → (w ≤ length s) × (n ≡ number (take w s) + f) × (e ≡ 1 + w)
+    go true q h = let p = some_pair_parts _ _ _ _ h in (leb-true w (length s) q, sym p.0, sym p.1)
     go false q h = impossible cc
 
 pub string-whole : (d : ℕ) (s : Bytes) (n e : ℕ) → header string_by s ≡ Some (n, e) → e + n ≤ length s → value d s ≡ Ok (e + n)

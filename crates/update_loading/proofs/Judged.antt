@@ -1,5 +1,6 @@
 -- A tuple judged by the tests on the way; what that says of its fields. Assumes nothing.
-use Rattle.std.specs.Prelude.{Some, None, Ok, Err, Option}
+use Rattle.std.specs.Prelude.{Some, None, Ok, Err, Option as CodeOption}
+use Rattle.std.proofs.lemmas.Option.{some_pair_parts}
 use mathlib.Core.Path.{◌≡◌, refl, sym, ap, ◌∙◌, subst}
 use mathlib.Core.Bool.{Bool, true, false}
 use mathlib.Core.List.{List, []}
@@ -66,7 +67,7 @@ module _ (t : Bytes) (l : List ℕ) where
   unfolding loaded entries tabled
   long-tuple h = rw (lt-leb (length t) max_tuple h) (refl, refl)
 
-  module _ (h : length t ≤ max_tuple) {x : (Option (ℕ × ℕ))} (q : x ≡ natural_by t (count t)) where
+  module _ (h : length t ≤ max_tuple) {x : CodeOption (ℕ × ℕ)} (q : x ≡ natural_by t (count t)) where
     pub no_array : x ≡ None → Answers t (Err Bad) l l
     unfolding loaded loaded_by entries entries_by tabled count count_from
     no_array e = rw (le-leb (length t) max_tuple h) (go (header array_by t) (sym e ∙ q))
@@ -81,7 +82,7 @@ module _ (t : Bytes) (l : List ℕ) where
       many_fields k = rw (le-leb (length t) max_tuple h) (go (header array_by t) (sym i ∙ q))
         where
           go : (r : Header) → Some (n, at) ≡ natural_by t (count_from r t) → ((Err Bad) ≡ loaded_by (length l) r t) × (l ≡ tabled (entries_by (length l) r t) l)
-          go (Some (m, e)) q = let j : m ≡ n = cc in rw (j, lt-leb n max_fields k) (refl, refl)
+          go (Some (m, e)) q = let j = (some_pair_parts _ _ _ _ q).0 in rw (← j, lt-leb n max_fields k) (refl, refl)
           go None q = impossible cc
 
       module _ (k : n ≤ max_fields) where
@@ -92,8 +93,7 @@ module _ (t : Bytes) (l : List ℕ) where
           where
             go : (r : Header) → header array_by t ≡ r → Some (n, at) ≡ natural_by t (count_from r t) → (header array_by t ≡ Some (n, at)) × (at ≤ length t)
             go (Some (m, e)) p q =
-                let j : m ≡ n = cc in
-                let o : at ≡ length t - length (drop e t) = cc in
+                let (j, o) = some_pair_parts _ _ _ _ q in
                 let f = (array-short t m e (omega arith) p).1 in
                 let d = length-drop e t in
                 let u : e ≡ at = omega arith in

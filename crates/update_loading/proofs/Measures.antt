@@ -6,9 +6,11 @@ use Prim.Native.Nat.{ℕ, suc, ◌+◌, ◌-◌, ◌<◌, ◌≤◌}
 use native.Mathlib.Omega.{arith}
 use native.Mathlib.Numerals.{add-one}
 use native.Mathlib.Nat.{add-zero, sub-zero}
-use lib.ListN.{length, take, drop, set, length-set, take-append-drop}
+use lib.ListN.{length, take, drop, set, length-append, length-drop, length-set, take-append-drop}
 use lib.Seq.{take-suc-set, drop-set-lt, drop-drop, length-take-le}
+use Rattle.std.proofs.lemmas.List.{drop-append-le}
 use Rattle.msgpack_first_bytes.specs.Bytes.{Bytes}
+use Rattle.msgpack_first_bytes.proofs.Logic.{impossible}
 use Rattle.msgpack_values.specs.Value.{shift, items, Read}
 use Rattle.msgpack_values.specs.Pieces.{pieces}
 use Rattle.msgpack_values.proofs.Laws.{items-whole, items-broken}
@@ -31,7 +33,7 @@ whole-at at e (Ok k) h =
     let q : e ≡ at + k = cc in
     let m : k ≡ e - at = omega arith in
     (omega arith, ap Ok m)
-whole-at at e (Err p) h = absurd (let z : ◌≡◌ {A = ℕ} 0 1 = cc in omega arith)
+whole-at at e (Err p) h = impossible cc
 
 -- nothing more is measured: the table is what was measured, laid over
 ended : {v : Bytes → Read} {t : Bytes} {from n : ℕ} {l₀ l : List ℕ} {at i : ℕ} → Sofar v t from n l₀ l at i → i ≤ length l
@@ -64,9 +66,8 @@ module _ {v : Bytes → Read} (good : Good v) {t : Bytes} {from n : ℕ} {l₀ l
       }
 
   -- what the next turn finds
-  pub next_turn : {e p a : ℕ} {l' : List ℕ} → n ≤ length l → length l ≡ length l₀ → Ok e ≡ shift at (v (drop at t)) → p ≡ place_of at (e - at) → l' ≡ set l i p → a ≡ e
-      → (i + 1 ≤ n) × (length l' ≡ length l₀) × Sofar v t from n l₀ l' a (i + 1)
-  next_turn g k q o x y = rw (x, y) (omega arith, simp length-set k, next-whole (omega arith) q o)
+  pub next_turn : {e p : ℕ} → length l ≡ n → Ok e ≡ shift at (v (drop at t)) → p ≡ place_of at (e - at) → (length (set l i p) ≡ n) × Sofar v t from n l₀ (set l i p) e (i + 1)
+  next_turn k q o = (simp length-set k, next-whole (omega arith) q o)
 
   pub next-broken : {p : ℕ} → i ≤ length l → Err p ≡ shift at (v (drop at t))
       → (Err p ≡ shift from (items v n (drop from t))) × (l ≡ tabled (places_at from (pieces v n (drop from t))) l₀)
@@ -74,7 +75,7 @@ module _ {v : Bytes → Read} (good : Good v) {t : Bytes} {from n : ℕ} {l₀ l
   next-broken {p} g q = (items-broken v t at (n - (i + 1)) p q ∙ rw (← one_less) f.read, ended f g (rw one_less (none (v (drop at t)) refl q)))
     where
       none : (r : Read) → v (drop at t) ≡ r → Err p ≡ shift at r → places_at at (pieces v (suc (n - (i + 1))) (drop at t)) ≡ []
-      none (Ok k) e q = absurd (let z : ◌≡◌ {A = ℕ} 0 1 = cc in omega arith)
+      none (Ok k) e q = impossible cc
       none (Err k) e q = rw e
 
 pub all_whole : {v : Bytes → Read} {t : Bytes} {from n : ℕ} {l₀ l : List ℕ} {at i : ℕ} → Sofar v t from n l₀ l at i → i ≡ n → i ≤ length l
@@ -83,3 +84,13 @@ unfolding items pieces places_at
 all_whole {v} {t} {from} {n} {l₀} {l} {at} {i} f e g =
     let z : n - i ≡ 0 = omega arith in
     (rw (z, add-zero) at f.read, ended f g (rw z))
+
+-- the front of a table filled, and the rest of it as it was
+pub laid : (ps table : List ℕ) {l : List ℕ} {n : ℕ} → n ≤ length table → length l ≡ n → l ≡ tabled ps (take n table) → l ++ drop n table ≡ tabled ps table
+unfolding tabled
+laid ps table {l} {n} h k e =
+    let f = length-take-le n table h in
+    let g = simp (length-append, length-drop) at (ap length e) in
+    let m : length ps ≤ length (take n table) = omega arith in
+    let d : drop (length ps) table ≡ drop (length ps) (take n table) ++ drop n table = ap (drop (length ps)) (sym (take-append-drop n table)) ∙ drop-append-le (length ps) (take n table) (drop n table) m in
+    rw (e, append_assoc, ← d)

@@ -1,5 +1,5 @@
 -- Inner: a tuple judged, and the places of its fields in a table.
-use Rattle.std.specs.Prelude.{ℕ, ◌<◌, ◌≡◌, List, [], ◌++◌, leb, length, drop, Some, None, Ok, Err, Result}
+use Rattle.std.specs.Prelude.{ℕ, ◌<◌, ◌≡◌, List, [], ◌++◌, leb, length, drop, Some, None, Ok, Err, Result, Option as CodeOption}
 use Rattle.std.proofs.Math.Option.{Option, none, some}
 use Rattle.msgpack_first_bytes.specs.Bytes.{Bytes, pick}
 use Rattle.msgpack_values.specs.Value.{shift, value}
@@ -41,6 +41,7 @@ entries room t = pick (leb (length t) max_tuple) (entries_by room (header array_
 unfoldable pub tabled : List ℕ → List ℕ → List ℕ
 tabled ps table = ps ++ drop (length ps) table
 
--- e is 0, which says nothing, or the place after the value at a place
-abbrev pub EndOf : Bytes → ℕ → ℕ → Type 0
-EndOf s at e = 0 < e → Ok e ≡ shift at (value field_depth (drop at s))
+-- an end that is told is the place after the value at a place
+abbrev pub EndOf : Bytes → ℕ → CodeOption ℕ → Type 0
+EndOf s at (Some e) = Ok e ≡ shift at (value field_depth (drop at s))
+EndOf s at None = Unit {0}

@@ -110,7 +110,9 @@ pub fn load(tuple: &[u8], table: &mut [u32]) -> Loaded
     if table.len() < n {
         return Err(Unloaded::NoRoom);
     }
-    let end = measure(tuple, from, n, table).or(Err(Unloaded::Bad))?;
+    let Ok(end) = measure(tuple, from, n, table) else {
+        return Err(Unloaded::Bad);
+    };
     if end != tuple.len() {
         return Err(Unloaded::Bad);
     }

@@ -1,5 +1,6 @@
 -- A decoder leaves an end of what it was given, and the bytes that it got stand just before that: the way back from what the code finds. Assumes nothing.
 use Rattle.std.specs.Prelude.{Some, None, Ok, Err, Option}
+use Rattle.std.proofs.lemmas.Option.{some_pair_parts}
 use mathlib.Core.Path.{◌≡◌, refl, sym, ap, ◌∙◌}
 use mathlib.Core.Bool.{Bool, true, false}
 use mathlib.Core.List.{[], ◌∷◌, ◌++◌, append_assoc}
@@ -9,6 +10,7 @@ use lib.Dec.{leb, eqb}
 use lib.ListN.{length, take, drop, length-append, take-append-drop}
 use lib.Seq.{drop-drop, take_at, drop_at}
 use Rattle.msgpack_first_bytes.specs.Bytes.{Bytes, pick}
+use Rattle.msgpack_first_bytes.proofs.Logic.{impossible}
 use Rattle.msgpack_values.specs.Value.{value, Read}
 use Rattle.msgpack_scalars.specs.Integer.{integer, Integer}
 use Rattle.msgpack_scalars.specs.Start.{string_by, array_by}
@@ -175,9 +177,5 @@ span_back l (gets b s) h = rw (part-is b s h, rest-after b s h)
 
 -- its places are in order, and within l
 pub span_order : (l : Bytes) (g : Got Bytes) {a e : ℕ} → Some (a, e) ≡ span_by l g → (a ≤ e) × (e ≤ length l)
-span_order l fails q = absurd (let z : ◌≡◌ {A = ℕ} 0 1 = cc in omega arith)
-span_order l (gets b s) {a} {e} q =
-    let k : ◌≡◌ {A = ℕ × ℕ} (a, e) (length l - length s - length b, length l - length s) = cc in
-    let i : a ≡ length l - length s - length b = ap (λ (x : ℕ × ℕ). x.0) k in
-    let j : e ≡ length l - length s = ap (λ (x : ℕ × ℕ). x.1) k in
-    (omega arith, omega arith)
+span_order l fails q = impossible cc
+span_order l (gets b s) q = let (i, j) = some_pair_parts _ _ _ _ q in (omega arith, omega arith)

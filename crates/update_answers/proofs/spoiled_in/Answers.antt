@@ -1,16 +1,17 @@
 -- By the number.
-use borrow.Author.Tests.{eq-eqb, ne_eqb}
+use native.Mathlib.Omega.{arith}
+use borrow.Author.Tests.{ne_eqb}
 use Rattle.tuples.specs.Call.{spoiled_in}
 use Rattle.update_answers.proofs.spoiled_in.Goals as goal
 
-pub returns-then-number-eq11 : goal.returns-then-number-eq11
+pub returns-in-11 : goal.returns-in-11
 unfolding spoiled_in
-returns-then-number-eq11 c = rw (eq-eqb _ 11 c.if-number-eq11.true) c.spoiled_at.ensures
+returns-in-11 c = rw c.in-11.is c.spoiled_at.ensures
 
-pub returns-then-number-eq12 : goal.returns-then-number-eq12
+pub returns-in-12 : goal.returns-in-12
 unfolding spoiled_in
-returns-then-number-eq12 c = rw (ne_eqb _ 11 c.if-number-eq11.false, eq-eqb _ 12 c.if-number-eq12.true) c.spoiled_at-then-number-eq12.ensures
+returns-in-12 c = rw c.in-12.is c.spoiled_at-in-12.ensures
 
-pub returns : goal.returns
+pub returns-in_default : goal.returns-in_default
 unfolding spoiled_in
-returns c = rw (ne_eqb _ 11 c.if-number-eq11.false, ne_eqb _ 12 c.if-number-eq12.false)
+returns-in_default c = let n = c.args.number in rw (ne_eqb n 11 (λ e. omega arith), ne_eqb n 12 (λ e. omega arith))

@@ -3,12 +3,6 @@ use native.Mathlib.Omega.{arith}
 use Rattle.update_loading.proofs.Ends.{fixint_ends, uint_16_ends}
 use Rattle.update_loading.proofs.short_end.Goals as goal
 
-pub returns-then-s-at : goal.returns-then-s-at
-returns-then-s-at = λ c h. absurd (omega arith)
-
-pub returns-then-s-at-lt3 : goal.returns-then-s-at-lt3
-returns-then-s-at-lt3 = λ c h. absurd (omega arith)
-
 pub returns-then-s-at-2 : goal.returns-then-s-at-2
 returns-then-s-at-2 c = let a = c.args in uint_16_ends a.s.now a.at (omega (arith, c.if-s-at-2.true)) (omega arith) (omega arith)
 

@@ -16,17 +16,8 @@ returns-then-s-at-2 c =
     let y = c.type_inv.s (a.at + 2) in
     str_16_ends a.s.now a.at (omega (arith, c.if-s-at-2.true)) (omega arith) (omega arith) (omega arith)
 
-pub returns-then-left-lt2 : goal.returns-then-left-lt2
-returns-then-left-lt2 = λ c h. absurd (omega arith)
-
 pub overflow_cast-n : goal.overflow_cast-n
 overflow_cast-n c = omega (arith, c.type_inv.s (c.args.at + 1))
-
-pub returns-then-left-n : goal.returns-then-left-n
-returns-then-left-n = λ c h. absurd (omega arith)
-
-pub returns-then-left-lt3 : goal.returns-then-left-lt3
-returns-then-left-lt3 = λ c h. absurd (omega arith)
 
 pub overflow_cast-n-then-s-at-2 : goal.overflow_cast-n-then-s-at-2
 overflow_cast-n-then-s-at-2 c = omega (arith, c.type_inv.s (c.args.at + 1))
@@ -36,9 +27,3 @@ overflow_cast-n-then-s-at-2-2 c = omega (arith, c.type_inv.s (c.args.at + 2))
 
 pub overflow_add-n-then-s-at-2-3 : goal.overflow_add-n-then-s-at-2-3
 overflow_add-n-then-s-at-2-3 c = let a = c.args.at in omega (arith, c.type_inv.s (a + 1), c.type_inv.s (a + 2))
-
-pub returns-then-left-n-2 : goal.returns-then-left-n-2
-returns-then-left-n-2 = λ c h. absurd (omega arith)
-
-pub returns : goal.returns
-returns = λ c h. absurd (omega arith)

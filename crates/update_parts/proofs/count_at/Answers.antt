@@ -1,5 +1,5 @@
 -- What was read is what the definition gets; a short header is told by its entry.
-use mathlib.Core.Path.{sym, ap, ◌∙◌}
+use mathlib.Core.Path.{ap, ◌∙◌}
 use native.Mathlib.Omega.{arith}
 use Rattle.msgpack_first_bytes.specs.Entry.{entry_of}
 use Rattle.msgpack_first_bytes.proofs.Entries.{short-array_said}

@@ -1,5 +1,4 @@
 -- By its header, and by whether its bytes have all come.
-use native.Mathlib.Omega.{arith}
 use mathlib.Core.Path.{◌∙◌}
 use borrow.Author.Tests.{le-leb, lt-leb}
 use Rattle.update_parts.proofs.Reading.{string-start, string-at}
