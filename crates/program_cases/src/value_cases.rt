@@ -42,8 +42,8 @@ fn print_form(form: Form) {
 
 // A line for each first byte: its kind, its length bytes, and what is due by it alone.
 pub(crate) fn print_first_bytes() {
-    for b in 0u8..=255u8 {
-        io::print_hex(STDOUT, b as u64, 2);
+    for b in 0..=255u8 {
+        io::print_hex(STDOUT, u64::from(b), 2);
         print(b"\t");
         print_form(msgpack_first_bytes::form_of(b));
         print(b"\n");
@@ -85,7 +85,7 @@ fn print_meaning(meaning: Meaning) {
         }
         Meaning::Float32(_, bits) => {
             print(b"float32\t");
-            io::print_hex(STDOUT, bits as u64, 8);
+            io::print_hex(STDOUT, u64::from(bits), 8);
         }
         Meaning::Float64(_, bits) => {
             print(b"float64\t");
@@ -95,7 +95,7 @@ fn print_meaning(meaning: Meaning) {
         Meaning::Bin(start, length) => print_place(b"bin", start, length),
         Meaning::Ext(kind, start, length) => {
             print(b"ext\t");
-            io::print_decimal(STDOUT, kind as u64);
+            io::print_decimal(STDOUT, u64::from(kind));
             print_number(start);
             print_number(length);
         }
@@ -110,9 +110,7 @@ pub(crate) fn print_value(bytes: &[u8]) {
     print_number(answer.number as usize);
     print_number(answer.length);
     print(b"\t");
-    let meaning = answer.meaning;
-    print_meaning(meaning);
-    let place = answer.place;
-    print_optional(place);
+    print_meaning(answer.meaning);
+    print_optional(answer.place);
     print(b"\n");
 }
