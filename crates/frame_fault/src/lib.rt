@@ -110,7 +110,14 @@ fn compose(input: &[u8], out: &mut [u8]) -> usize
     while at < input.len() {
         let answer = frame_reading::read_frame(&input[at..]);
         if answer.number != 0 {
-            return write_fault(out, frames + 1, at, &input[at..], answer.number, answer.place);
+            return write_fault(
+                out,
+                frames + 1,
+                at,
+                &input[at..],
+                answer.number,
+                answer.place,
+            );
         }
         at += answer.length;
         frames += 1;

@@ -60,7 +60,11 @@ fn write_byte(out: &mut [u8], at: usize, b: u8, marked: bool) -> usize
 {
     let high = hex_digit(b / 16);
     let low = hex_digit(b % 16);
-    let cell = if marked { [b'>', high, low, b'<'] } else { [b' ', high, low, b' '] };
+    let cell = if marked {
+        [b'>', high, low, b'<']
+    } else {
+        [b' ', high, low, b' ']
+    };
     write_bytes(out, at, &cell)
 }
 

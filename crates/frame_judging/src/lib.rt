@@ -81,7 +81,12 @@ fn judged(frame: Frame, bytes: &[u8], part: Part) -> Judgement
         count += u32::from(frame_items::is_written(content));
         length = capped_sum(length, frame_items::pair_length(bytes, content));
     }
-    Judgement { sound, suited, count, length }
+    Judgement {
+        sound,
+        suited,
+        count,
+        length,
+    }
 }
 
 pub fn header_judged(frame: Frame, bytes: &[u8]) -> Judgement

@@ -12,7 +12,11 @@ use msgpack_values::OptionalNumber;
 fn number_content(n: OptionalNumber) -> Content
     ensures { result ≡ number_content n }
 {
-    if n.present { Content::Number(n.value) } else { Content::Absent }
+    if n.present {
+        Content::Number(n.value)
+    } else {
+        Content::Absent
+    }
 }
 
 // The tests subtract, since a sum of start and length could wrap.
@@ -62,5 +66,9 @@ pub fn known_key(frame: Frame, bytes: &[u8], i: usize) -> KnownKey
     ensures { result ≡ known_key_at frame bytes.now i }
 {
     let Line { key, rule } = frame_rules::line_of(i);
-    KnownKey { key, rule, content: content_of(frame, bytes, i) }
+    KnownKey {
+        key,
+        rule,
+        content: content_of(frame, bytes, i),
+    }
 }

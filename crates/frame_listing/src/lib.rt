@@ -57,7 +57,10 @@ fn first_line(left: &[u8], number: u64, line: &mut [u8]) -> Line
     ensures { First number left.now result line.new }
 {
     if left.is_empty() {
-        return Line { length: write_last(line, b"end\tclean\t", 0), bytes: 0 };
+        return Line {
+            length: write_last(line, b"end\tclean\t", 0),
+            bytes: 0,
+        };
     }
     let answer = frame_reading::read_frame(left);
     match answer.number {
@@ -67,8 +70,14 @@ fn first_line(left: &[u8], number: u64, line: &mut [u8]) -> Line
             let length = write_frame(line, number, frame.code, frame.sync, bytes as u64);
             Line { length, bytes }
         }
-        1 => Line { length: write_last(line, b"end\tincomplete\t", left.len() as u64), bytes: 0 },
-        n => Line { length: write_last(line, b"end\trefused\t", u64::from(n)), bytes: 0 },
+        1 => Line {
+            length: write_last(line, b"end\tincomplete\t", left.len() as u64),
+            bytes: 0,
+        },
+        n => Line {
+            length: write_last(line, b"end\trefused\t", u64::from(n)),
+            bytes: 0,
+        },
     }
 }
 

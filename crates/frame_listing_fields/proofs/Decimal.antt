@@ -59,8 +59,7 @@ module _ (l w : Bytes) (n i : ℕ) (h : i ≤ length l) (k : length (decimal n) 
       let m : decimal n ≡ decimal (n / 10) ++ digit (n % 10) = decimal-more n t u in
       let s = some_digit (n / 10) in
       let z : length (decimal n) ≡ length (decimal (n / 10)) + 1 = ap length m ∙ length-append (decimal (n / 10)) (digit (n % 10)) in
-      let j : suc (i - 1) ≡ i = omega arith in
-      (
+      let j : suc (i - 1) ≡ i = omega arith in (
         omega arith,
         ap (◌++◌ (decimal (n / 10))) (store l (i - 1) (48 + n % 10) (omega arith))
             ∙ rw j (sym (append_assoc (decimal (n / 10)) (digit (n % 10)) (drop i l)))

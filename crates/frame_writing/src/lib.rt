@@ -75,14 +75,7 @@ fn put_pairs(out: &mut [u8], at: usize, frame: Frame, bytes: &[u8], part: Part) 
 }
 
 // A part as a whole map, with its header.
-fn put_map(
-    out: &mut [u8],
-    at: usize,
-    frame: Frame,
-    bytes: &[u8],
-    part: Part,
-    count: u32,
-) -> usize
+fn put_map(out: &mut [u8], at: usize, frame: Frame, bytes: &[u8], part: Part, count: u32) -> usize
     requires { (count ≡ length (pairs (items_of part frame bytes.now)))
         × (at + length (map_form (pairs (items_of part frame bytes.now))) ≤ length out.old) }
     ensures { (result ≡ next at (map_form (pairs (items_of part frame bytes.now))) out.old)

@@ -32,8 +32,15 @@ pub fn reset() -> Session
 pub fn open(carry: &[u8]) -> SessionOpening
     ensures { result ≡ opening carry.now }
 {
-    let number = if carry.len() < sessions::CARRY_ROOM { 19 } else { 0 };
-    SessionOpening { number, session: reset() }
+    let number = if carry.len() < sessions::CARRY_ROOM {
+        19
+    } else {
+        0
+    };
+    SessionOpening {
+        number,
+        session: reset(),
+    }
 }
 
 // The frame that a feed answers: the first `length` bytes of the carry buffer or of the piece.
@@ -77,7 +84,11 @@ fn keep(held: usize, piece: &[u8], stop: usize, settled: bool, carry: &mut [u8])
 fn contents(s: &[u8], from: usize, whole: bool) -> FrameAnswer
     ensures { result ≡ check (refuse 1) whole (in_frame s.now from) }
 {
-    if whole { frame_reading::read_contents(s, from) } else { frame_reading::refused(1) }
+    if whole {
+        frame_reading::read_contents(s, from)
+    } else {
+        frame_reading::refused(1)
+    }
 }
 
 // The frame at hand: `held` bytes of it stood in the carry buffer, `arrived` came, its first `stop` bytes settle it, and what reading it answers.
@@ -131,7 +142,12 @@ fn answered(last: Session, frame: &AtHand) -> SessionAnswer
     requires { frame.now.answer.number ≡ 1 → frame.now.held + frame.now.arrived ≤ carry_room }
     ensures { result ≡ fed last frame.now.held frame.now.arrived frame.now.stop frame.now.answer }
 {
-    let FrameAnswer { number, length, frame: record, place } = frame.answer;
+    let FrameAnswer {
+        number,
+        length,
+        frame: record,
+        place,
+    } = frame.answer;
     SessionAnswer {
         number,
         in_carry: (number == 0) & (0 < frame.held),
@@ -174,14 +190,24 @@ fn go_on(held: usize, piece: &[u8], carry: &mut [u8]) -> AtHand
         Err((number, stop)) => {
             keep(held, piece, stop, number != 1, carry);
             let answer = frame_reading::refused(number);
-            AtHand { held, arrived, stop, answer }
+            AtHand {
+                held,
+                arrived,
+                stop,
+                answer,
+            }
         }
         Ok((size, from)) => {
             let stop = from + size;
             let whole = stop.saturating_sub(held) <= arrived;
             keep(held, piece, stop, whole, carry);
             let answer = contents(view(0 < held, stop, piece, carry), from, whole);
-            AtHand { held, arrived, stop, answer }
+            AtHand {
+                held,
+                arrived,
+                stop,
+                answer,
+            }
         }
     }
 }

@@ -26,7 +26,7 @@ loop-i-preserved c =
     let b = one_or_none c.is_written.result in (
       omega arith,
       next_turn a.bytes.now c.known_key-rule.result e l.invariant.1 c.is_sound-sound.ensures c.content_suits-suited.ensures
-      (c.from-count.ensures ∙ b.1 ∙ ap (λ (w : Bool). pick w 1 0) c.is_written.ensures) c.pair_length.ensures c.capped_sum-length.ensures,
+          (c.from-count.ensures ∙ b.1 ∙ ap (λ (w : Bool). pick w 1 0) c.is_written.ensures) c.pair_length.ensures c.capped_sum-length.ensures,
     )
 
 pub returns : goal.returns
