@@ -1,22 +1,21 @@
 // An operation planned on the fields that are held.
 #![tactic(auto)]
 
-ghost use Rattle.std.specs.Prelude.{◌≡◌, ◌+◌, ◌-◌};
+ghost use Rattle.std.specs.Prelude.{◌≡◌, ◌+◌, ◌-◌, leb};
+ghost use Rattle.msgpack_first_bytes.specs.Bytes.{pick};
+ghost use Rattle.tuples.specs.Limits.{max_tuple};
+ghost use Rattle.tuples.specs.declared.Refusal.TheVariants.{TooLarge};
 ghost use Rattle.update_places.specs.Place.{in_list, place_of};
-ghost use Rattle.update_operations.specs.declared.Action.TheVariants.{Alter};
-ghost use Rattle.update_planning.specs.Plan.{assigned_by, inserted_by, removed_by, planned_at, work_at, planned, work_after};
+ghost use Rattle.update_planning.specs.Plan.{planned, work_after};
 
 use tuples::{MAX_TUPLE, Refusal};
 use update_altering::Obstacle;
 use update_numbers::Field;
-use update_operations::{Action, Change};
+use update_operations::Action;
 use update_places::{IN_LIST, IN_WORK};
 
-// What an operation does to the fields that it meets: it is refused; the work array has no room for what it
-// makes; a place comes for field f, with so many bytes of the work array in use then; one comes before
-// field f; so many fields go from f on.
-// A place comes for field f, with so many bytes of the work array in use then; one comes before field f; so
-// many fields go from f on.
+// What an operation does to the table: a place comes for field f, with so many bytes of the work array in use then;
+// one comes before field f; so many fields go from f on.
 #[derive(Clone, Copy)]
 pub enum TableEdit {
     Put(usize, u32, usize),
@@ -24,92 +23,18 @@ pub enum TableEdit {
     Cut(usize, usize),
 }
 
+// What an operation does to the fields that it meets, or why nothing.
 pub type Planned = Result<TableEdit, Obstacle>;
 
-// How far `end` is past `start`.
-fn span(start: usize, end: usize) -> usize
-    ensures { result ≡ end - start }
+// The place of a field that the list brings, from `start` on; a start past every list's is taken round.
+fn brought(start: usize, end: usize) -> Result<u32, Refusal>
+    ensures { result ≡ pick (leb (end - start) max_tuple) (Ok (place_of (in_list + start) (end - start))) (Err TooLarge) }
 {
-    if end < start {
-        return 0;
-    }
-    end - start
-}
-
-// The place of the list's bytes from `start` on; a start past every list's is taken round.
-fn in_list(start: usize, n: usize) -> u32
-    ensures { result ≡ place_of (in_list + start) n }
-{
-    update_places::place_of(IN_LIST + start % 0x2_0000, n)
-}
-
-// `=`.
-fn assigned(f: usize, n: usize, start: usize, end: usize, used: usize) -> Planned
-    ensures { result ≡ assigned_by f n start end used }
-{
-    if n < f {
-        return Err(Obstacle::Refused(Refusal::NoField));
-    }
-    let long = span(start, end);
+    let long = end.saturating_sub(start);
     if MAX_TUPLE < long {
-        return Err(Obstacle::Refused(Refusal::TooLarge));
+        return Err(Refusal::TooLarge);
     }
-    if f < n {
-        return Ok(TableEdit::Put(f, in_list(start, long), used));
-    }
-    Ok(TableEdit::Add(f, in_list(start, long)))
-}
-
-// `!`.
-fn inserted(f: usize, n: usize, start: usize, end: usize) -> Planned
-    ensures { result ≡ inserted_by f n start end }
-{
-    if n < f {
-        return Err(Obstacle::Refused(Refusal::NoField));
-    }
-    let long = span(start, end);
-    if MAX_TUPLE < long {
-        return Err(Obstacle::Refused(Refusal::TooLarge));
-    }
-    Ok(TableEdit::Add(f, in_list(start, long)))
-}
-
-// `#`.
-fn removed(f: usize, n: usize, m: u64) -> Planned
-    ensures { result ≡ removed_by f n m }
-{
-    if n <= f {
-        return Err(Obstacle::Refused(Refusal::NoField));
-    }
-    if m < (n - f) as u64 {
-        return Ok(TableEdit::Cut(f, m as usize));
-    }
-    Ok(TableEdit::Cut(f, n - f))
-}
-
-// What alters a field whose place is `old`.
-fn altered(
-    tuple: &[u8],
-    list: &[u8],
-    work: &mut [u8],
-    used: usize,
-    old: u32,
-    f: usize,
-    n: usize,
-    change: Change,
-    end: usize,
-) -> Planned
-    ensures { (result ≡ planned_at tuple.now list.now work.old used old n f (Alter change) end)
-        × (work.new ≡ work_at tuple.now list.now work.old used old n f (Alter change) end) }
-{
-    if n <= f {
-        return Err(Obstacle::Refused(Refusal::NoField));
-    }
-    match update_altering::alter(tuple, list, work, used, old, change, end) {
-        Err(Obstacle::Refused(refusal)) => Err(Obstacle::Refused(refusal)),
-        Err(Obstacle::Full) => Err(Obstacle::Full),
-        Ok(to) => Ok(TableEdit::Put(f, update_places::place_of(IN_WORK + used % 0x2_0000, to - used), to)),
-    }
+    Ok(update_places::place_of(IN_LIST + start % 0x2_0000, long))
 }
 
 // The action on a field of the n that are held; `old` is the field's place, where there is one. A field's new
@@ -128,14 +53,16 @@ pub fn plan(
     ensures { (result ≡ planned tuple.now list.now work.old used old n field action end)
         × (work.new ≡ work_after tuple.now list.now work.old used old n field action end) }
 {
-    let Some(number) = field else {
-        return Err(Obstacle::Refused(Refusal::NoField));
-    };
-    let f = number as usize;
+    let f = field.ok_or(Refusal::NoField)? as usize;
     match action {
-        Action::Alter(change) => altered(tuple, list, work, used, old, f, n, change, end),
-        Action::Assign(start) => assigned(f, n, start, end, used),
-        Action::Insert(start) => inserted(f, n, start, end),
-        Action::Remove(m) => removed(f, n, m),
+        Action::Alter(change) if f < n => {
+            let to = update_altering::alter(tuple, list, work, used, old, change, end)?;
+            Ok(TableEdit::Put(f, update_places::place_of(IN_WORK + used % 0x2_0000, to - used), to))
+        }
+        Action::Assign(start) if f < n => Ok(TableEdit::Put(f, brought(start, end)?, used)),
+        Action::Assign(start) if f == n => Ok(TableEdit::Add(f, brought(start, end)?)),
+        Action::Insert(start) if f <= n => Ok(TableEdit::Add(f, brought(start, end)?)),
+        Action::Remove(m) if f < n => Ok(TableEdit::Cut(f, m.min((n - f) as u64) as usize)),
+        _ => Err(Obstacle::Refused(Refusal::NoField)),
     }
 }
