@@ -1,4 +1,5 @@
 // One MessagePack value at a place of a slice, held to a depth.
+// Stays: a slice and a place in it are two arguments, as `read_value` has them; a struct would be taken apart at each call.
 #![tactic(auto)]
 
 ghost use Rattle.std.specs.Prelude.{◌≡◌, ◌+◌, ◌-◌, ◌*◌, ◌^◌, ◌<◌, ◌≤◌, length, take, drop, true};
@@ -50,6 +51,14 @@ struct Inner {
     entry: u16,
 }
 
+// The first two bytes of an item with one length byte, and its size.
+#[derive(Clone, Copy)]
+struct Head {
+    first: u8,
+    second: u8,
+    size: usize,
+}
+
 // Where the items with the same head end, and how many are left from the last of them on.
 #[derive(Clone, Copy)]
 struct Run {
@@ -93,6 +102,7 @@ fn length_at(s: &[u8], at: usize, width: usize) -> usize
 }
 
 // The entry of the first byte at `at`; past the end that of the unused byte, which is broken there too.
+#[tactic(auto, unfolding(crate::specs::Tokens::first_byte_entry))]
 fn first_byte_entry(s: &[u8], at: usize) -> u16
     ensures { result ≡ first_byte_entry s.now at }
 {
@@ -215,12 +225,12 @@ fn past_ones(s: &[u8], at: usize, stop: usize) -> usize
     requires { (at ≤ stop) × (stop ≤ length s.now) }
     ensures { (result ≤ stop) × Ones s.now at result }
 {
-    for end in at..stop {
-        if !msgpack_first_bytes::is_array_of_one(s[end]) {
-            return end;
-        }
+    let mut end = at;
+    // Stays: no for over at..stop, which takes 3.6 % more instructions where many arrays of one stand side by side.
+    while end < stop && msgpack_first_bytes::is_array_of_one(s[end]) {
+        end += 1;
     }
-    stop
+    end
 }
 
 // What is inside the arrays of one that begin at `at`, if any do.
@@ -303,16 +313,16 @@ fn read_items(s: &[u8], at: usize, n: usize, depth: usize) -> Read
     Ok(end)
 }
 
-// Whether an item of `size` bytes with these first two stands at `at`, not the last one. The tests are one
+// Whether an item with this head stands at `at`, not the last one. The tests are one
 // condition: of a count alone the compiler would work out the end of the run by a product.
-fn same_head(s: &[u8], at: usize, first: u8, second: u8, size: usize, left: usize) -> bool
-    requires { (at ≤ length s.now) × (2 ≤ size) }
-    ensures { result ≡ true → Same s.now at first second size left }
+fn same_head(s: &[u8], at: usize, head: Head, left: usize) -> bool
+    requires { (at ≤ length s.now) × (2 ≤ head.size) }
+    ensures { result ≡ true → Same s.now at head.first head.second head.size left }
 {
-    if s.len() - at < size {
+    if s.len() - at < head.size {
         return false;
     }
-    (s[at] == first) & (s[at + 1] == second) & (1 < left)
+    (s[at] == head.first) & (s[at + 1] == head.second) & (1 < left)
 }
 
 // The item from `at` to `next`, the first of `left`, and those after it that have the same head: they are as long.
@@ -320,13 +330,15 @@ fn same_heads(s: &[u8], at: usize, next: usize, left: usize) -> Run
     requires { Heads s.now at next × (0 < left) }
     ensures { Ran s.now next left result }
 {
-    let size = next - at;
-    let first = s[at];
-    let second = s[at + 1];
+    let head = Head {
+        first: s[at],
+        second: s[at + 1],
+        size: next - at,
+    };
     let mut end = next;
     let mut rest = left;
-    while same_head(s, end, first, second, size, rest) {
-        end += size;
+    while same_head(s, end, head, rest) {
+        end += head.size;
         rest -= 1;
     }
     Run { end, left: rest }
@@ -361,6 +373,7 @@ pub fn place_of(read: Read) -> OptionalNumber
 }
 
 // .. of the value at `at`, of depth at most `depth`.
+#[tactic(auto, unfolding(crate::specs::Spoiled::spoiled_at))]
 pub fn spoiled_at(s: &[u8], at: usize, depth: usize) -> OptionalNumber
     ensures { result ≡ spoiled_at depth at s.now }
 {

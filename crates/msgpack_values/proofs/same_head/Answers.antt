@@ -9,13 +9,13 @@ use Rattle.msgpack_values.proofs.same_head.Goals as goal
 pub returns : goal.returns
 returns c t =
     let a = c.args in
-    let room : a.at + a.size ≤ length a.s.now = omega arith in
+    let room : a.at + a.head.size ≤ length a.s.now = omega arith in
     let (h, l) = ands _ _ t in
     let (f, g) = ands _ _ h in
     record {
       room = room;
-      first-is = eqb-true (get_or a.s.now a.at 0) a.first f;
-      second_is = eqb-true (get_or a.s.now (a.at + 1) 0) a.second g;
+      first-is = eqb-true (get_or a.s.now a.at 0) a.head.first f;
+      second_is = eqb-true (get_or a.s.now (a.at + 1) 0) a.head.second g;
       more = ltb-true 1 a.left l;
     }
 

@@ -5,8 +5,8 @@ use lib.ListN.{length, drop}
 use Rattle.msgpack_values.specs.Value.{shift, items, value}
 use Rattle.msgpack_values.proofs.same_heads.Given as goal
 
-abbrev pub invariant-loop-end : goal.invariant-loop-end
-invariant-loop-end l =
+abbrev pub invariant-loop-head : goal.invariant-loop-head
+invariant-loop-head l =
     record {
       further : l.next ≤ l.end;
       room : l.end ≤ length l.s;
@@ -15,5 +15,5 @@ invariant-loop-end l =
       same : (d : ℕ) → shift l.end (items (value d) (l.rest - 1) (drop l.end l.s)) ≡ shift l.next (items (value d) (l.left - 1) (drop l.next l.s));
     }
 
-abbrev pub decreases-loop-end : goal.decreases-loop-end
-decreases-loop-end l = l.rest
+abbrev pub decreases-loop-head : goal.decreases-loop-head
+decreases-loop-head l = l.rest

@@ -1,8 +1,0 @@
--- Whole or broken.
-use Rattle.msgpack_values.proofs.place_of.Goals as goal
-
-pub returns-in-Ok : goal.returns-in-Ok
-returns-in-Ok c = rw c.in-Ok.is
-
-pub returns-in-Err : goal.returns-in-Err
-returns-in-Err c = rw c.in-Err.is
