@@ -48,12 +48,12 @@ pub fn number_in(s: &[u8], table: &[Value], key: usize) -> OptionalNumber
 pub fn all_there(table: &[Value], keys: &[usize]) -> bool
     ensures { result ≡ all (λ (k : ℕ). (place_in table.now k).present) keys.now }
 {
-    keys
-        .iter()
+    keys.iter()
         .all(|key| frame_tables::place_in(table, *key).present)
 }
 
 // The record, whose code was judged before.
+#[tactic(auto, unfolding(frames::specs::Keys::frame_at))]
 pub fn frame_of(code: u64, s: &[u8], header: &[Value], body: &[Value]) -> Frame
     ensures { result ≡ frame_at code s.now (place_in header.now) (place_in body.now) }
 {

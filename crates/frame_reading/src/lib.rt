@@ -47,6 +47,7 @@ pub fn read_size(s: &[u8]) -> Size
     }
 }
 
+#[tactic(auto, unfolding(frames::specs::Keys::empty_frame, frames::specs::Keys::frame_at, frames::specs::Keys::optional, frames::specs::Held::number_in))]
 pub fn empty_frame() -> Frame
     ensures { result ≡ empty_frame }
 {
@@ -64,14 +65,16 @@ fn refused_at(number: u32, place: OptionalNumber) -> FrameAnswer
     }
 }
 
+// Stays: a number and no Refusal, since read_size's and session_feeding's refusals come here too, and C reads the number.
+#[tactic(auto, unfolding(frames::specs::Reading::refuse))]
 pub fn refused(number: u32) -> FrameAnswer
     ensures { result ≡ refuse number }
 {
     refused_at(number, NO_PLACE)
 }
 
-#[tactic(auto, unfolding(crate::specs::Steps::answer_of, frames::specs::Reading::accept))]
 // What C is told of the contents of `length` bytes.
+#[tactic(auto, unfolding(crate::specs::Steps::answer_of, frames::specs::Reading::accept))]
 fn answer_of(length: usize, read: Result<Frame, Refusal>) -> FrameAnswer
     ensures { result ≡ answer_of length read }
 {
@@ -139,8 +142,8 @@ fn judge(s: &[u8], at: usize, body_at: Option<usize>) -> Result<Frame, Refusal>
     by_places(s, &header, &body)
 }
 
-#[tactic(auto, unfolding(crate::specs::Steps::whole_at, crate::specs::Steps::whole_by))]
 // The end of the value at `at`; 4 where it is broken.
+#[tactic(auto, unfolding(crate::specs::Steps::whole_at, crate::specs::Steps::whole_by))]
 fn whole_at(s: &[u8], at: usize) -> Result<usize, Refusal>
     ensures { result ≡ whole_at s.now at }
 {

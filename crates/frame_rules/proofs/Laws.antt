@@ -1,21 +1,17 @@
 -- What the answers below say of the codes and of the tables. Assumes nothing.
 use Rattle.std.specs.Prelude.{Some, None}
-use mathlib.Core.Path.{◌≡◌, refl, sym, ap, ◌∙◌}
+use mathlib.Core.Path.{◌≡◌, refl, ap}
 use mathlib.Core.List.{List, [], ◌∷◌}
-use mathlib.Core.Bool.{true, false, ◌&&◌}
+use mathlib.Core.Bool.{false, ◌&&◌}
 use mathlib.Core.Option.{Option, none, some}
 use mathlib.Core.Logic.{◌⊎◌, inl, inr}
 use Prim.Native.Nat.{ℕ, zero, suc, ◌<◌, ◌≤◌}
 use native.Mathlib.Omega.{arith}
 use borrow.Author.Tests.{le-leb, lt-leb, ne_eqb}
 use lib.Dec.{leb}
-use lib.ListN.{length, take, length-append, get_or-eq_default}
-use lib.Seq.{take-append_seam}
 use Rattle.frames.specs.Codes.{codes, among, is_error, required}
-use Rattle.frames.specs.Keys.{all_lines}
-use Rattle.frames.specs.Limits.{known_keys}
 use Rattle.msgpack_first_bytes.proofs.Logic.{impossible}
-use Rattle.frame_rules.specs.Needs.{answer, needs_of, line_at, no_line}
+use Rattle.frame_rules.specs.Needs.{answer, needs_of}
 
 -- ---- 8 and 10
 

@@ -27,8 +27,8 @@ fn at_most(v: &[u8], limit: u64) -> bool
     }
 }
 
-#[tactic(auto, unfolding(frames::specs::Held::suits, frames::specs::Held::value_held))]
 // Whether the bytes of a value suit what their key must hold.
+#[tactic(auto, unfolding(frames::specs::Held::suits, frames::specs::Held::value_held))]
 pub fn suits_rule(rule: Rule, v: &[u8]) -> bool
     ensures { result ≡ suits rule (value_held rule v.now) }
 {
@@ -40,8 +40,8 @@ pub fn suits_rule(rule: Rule, v: &[u8]) -> bool
     }
 }
 
-#[tactic(auto, unfolding(crate::specs::Needs::needs_of, crate::specs::Needs::answer, frames::specs::Codes::required, frames::specs::Codes::is_error, frames::specs::Codes::among, frames::specs::Codes::codes))]
 // The body keys that a code requires; none where there is no such code.
+#[tactic(auto, unfolding(crate::specs::Needs::needs_of, crate::specs::Needs::answer, frames::specs::Codes::required, frames::specs::Codes::is_error, frames::specs::Codes::among, frames::specs::Codes::codes))]
 pub fn needs_of(code: u64) -> Option<&'static [usize]>
     ensures { option_map (λ s. s.now) result ≡ needs_of code }
 {
@@ -63,9 +63,9 @@ pub fn needs_of(code: u64) -> Option<&'static [usize]>
     }
 }
 
-#[tactic(auto, unfolding(crate::specs::Needs::line_at))]
 // Document 01's tables: the i-th known key and what it must hold, header and then body, each rising;
 // past the last, key 0 and anything.
+#[tactic(auto, unfolding(crate::specs::Needs::line_at))]
 pub fn line_of(i: usize) -> Line
     ensures { result ≡ line_at i }
 {

@@ -51,6 +51,7 @@ fn entry_at(s: &[u8], at: usize) -> Option<(usize, Value)>
 }
 
 // The table emptied: what was laid before says nothing then.
+#[tactic(auto, unfolding(crate::specs::Tables::empty_table))]
 fn no_table(values: &mut Table) -> Result<(), Untabled>
     ensures { table (number_of result) values.new ≡ empty_table 6 }
 {

@@ -12,7 +12,7 @@ use Rattle.msgpack_writing.specs.Forms.{big_endian, unsigned_form, map_header}
 use Rattle.msgpack_values.specs.declared.OptionalNumber.{OptionalNumber}
 use Rattle.frames.specs.declared.Place.{Place}
 use Rattle.frames.specs.declared.Frame.{Frame}
-use Rattle.frames.specs.Held.{all, view, as_number, number_in, is_header, suits, number_or_bytes, value_held, held_at, number_held, place_held, encoded, is_some, locate}
+use Rattle.frames.specs.Held.{view, as_number, number_in, is_header, suits, number_or_bytes, value_held, held_at, number_held, place_held, encoded, is_some, locate}
 use Rattle.frames.specs.Keys.{header_items, body_items, optional, code_in, frame_at, nowhere, empty_frame}
 use Rattle.frames.specs.Codes.{codes, among, is_error, required}
 use Rattle.frames.specs.Maps.{keyed, entry_at, entries, entries_by, entries_at, keys, has, distinct, placed, find}
