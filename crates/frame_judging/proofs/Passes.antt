@@ -1,10 +1,11 @@
 -- A pass over the known keys: what is judged so far, and what is left. Assumes nothing.
 use mathlib.Core.Path.{◌≡◌, refl, sym, ap, ◌∙◌}
-use mathlib.Core.Bool.{Bool, true, false, ◌&&◌}
+use mathlib.Core.Bool.{Bool, true, ◌&&◌}
 use mathlib.Core.List.{List, [], ◌∷◌}
 use Prim.Native.Nat.{ℕ, ◌+◌, ◌≤◌}
 use native.Mathlib.Omega.{arith}
 use lib.ListN.{length}
+use Rattle.std.proofs.Math.Bool.{and_assoc, and-true}
 use Rattle.msgpack_first_bytes.specs.Bytes.{Bytes, pick}
 use Rattle.frames.specs.Limits.{max_size}
 use Rattle.frames.specs.Held.{all, suits, encoded, Item}
@@ -15,14 +16,6 @@ use Rattle.frame_judging.specs.Parts.{pair_bytes}
 use Rattle.frame_judging.specs.Judged.{judgement_of}
 use Rattle.frame_judging.proofs.Runs.{pair-more}
 use Rattle.frame_judging.proofs.Lengths.{capped-few, pair-counted, all-counted}
-
-and_assoc : (a b c : Bool) → (a && (b && c)) ≡ ((a && b) && c)
-and_assoc true b c = refl
-and_assoc false b c = refl
-
-and_true : (a : Bool) → (a && true) ≡ a
-and_true true = refl
-and_true false = refl
 
 -- of zs, xs is left
 pub record Left (zs xs : List Item) (a b : Bool) (n t : ℕ) : Type 0 where
@@ -37,7 +30,7 @@ none_yet zs = let e : 0 + length (pair_bytes zs) ≡ length (pair_bytes zs) = om
 
 module _ (s : Bytes) (k : KnownKey) {xs rest : List Item} (e : xs ≡ item_of s k ∷ rest) where
   all_turn : (p : Item → Bool) (a : Bool) {b z : Bool} → b ≡ p (item_of s k) → (a && all p xs) ≡ z → ((a && b) && all p rest) ≡ z
-  all_turn p a q h = rw q (sym (and_assoc a (p (item_of s k)) (all p rest)) ∙ (rw e at h))
+  all_turn p a q h = rw q (and_assoc a (p (item_of s k)) (all p rest) ∙ (rw e at h))
 
   pub next_turn : {zs : List Item} {a b v w : Bool} {n m t p u : ℕ} → Left zs xs a b n t
       → v ≡ sound (held_of s k.content) → w ≡ suits k.rule (held_of s k.content) → m ≡ pick (is_written k.content) 1 0
@@ -57,8 +50,8 @@ pub none_left : {zs xs : List Item} {a b : Bool} {n t : ℕ} → Left zs xs a b 
     → record { sound = a; suited = b; count = n; length = t } ≡ judgement_of zs
 unfolding pairs
 none_left {zs} {a = a} {b = b} {n = n} {t = t} l e =
-    let four = sym (and_true a) ∙ (rw e at l.four) in
-    let nine = sym (and_true b) ∙ (rw e at l.nine) in
+    let four = sym (and-true a) ∙ (rw e at l.four) in
+    let nine = sym (and-true b) ∙ (rw e at l.nine) in
     let q = rw e at l.many in
     let many : n ≡ length (pairs zs) = omega arith in
     let long = all-counted t e l.few ∙ l.long in

@@ -1,6 +1,6 @@
 -- What each step of a feed says of the definition. Assumes nothing.
 use Rattle.std.specs.Prelude.{Ok, Err}
-use Rattle.std.proofs.Common.{◌≡◌, ℕ, ◌+◌, ◌-◌, ◌≤◌, min, Bool, not, eqb, ltb, leb, [], ◌∷◌, ◌++◌, length, take, sym, refl, ap, ◌∙◌, subst, ⊎_elim, arith, length-append, length-take-le, take_all, ne_eqb, le-leb}
+use Rattle.std.proofs.Common.{◌≡◌, ℕ, ◌+◌, ◌-◌, ◌≤◌, min, Bool, not, eqb, ltb, leb, [], ◌∷◌, ◌++◌, length, take, sym, refl, ap, ◌∙◌, subst, ⊎_elim, arith, length-append, length-take-le, ne_eqb, le-leb}
 use Rattle.std.proofs.lemmas.List.{take_min}
 use borrow.Author.Tests.{lt-leb}
 use Rattle.msgpack_first_bytes.specs.Bytes.{Bytes}

@@ -1,5 +1,5 @@
 -- The front of the one or the other.
-use Rattle.std.proofs.Common.{◌≡◌, ℕ, List, take, ap, sym, ◌∙◌}
+use Rattle.std.proofs.Common.{◌≡◌, ◌∙◌}
 use Rattle.sessions.specs.Session.{view_of}
 use Rattle.session_feeding.proofs.Steps.{take_least}
 use Rattle.session_feeding.proofs.view.Goals.{then-in_carry, else-in_carry}
