@@ -72,7 +72,7 @@ module _ (t : Bytes) (l : List ℕ) where
     unfolding loaded loaded_by entries entries_by tabled count count_from
     no_array e = rw (le-leb (length t) max_tuple h) (go (header array_by t) (sym e ∙ q))
       where
-        go : (r : Header) → None ≡ natural_by t (count_from r t) → ((Err Bad) ≡ loaded_by (length l) r t) × (l ≡ tabled (entries_by (length l) r t) l)
+        go : (r : Header) → None ≡ natural_by t (count_from r t) → (Err Bad ≡ loaded_by (length l) r t) × (l ≡ tabled (entries_by (length l) r t) l)
         go (Some (n, e)) q = impossible cc
         go None q = (refl, refl)
 
@@ -81,7 +81,7 @@ module _ (t : Bytes) (l : List ℕ) where
       unfolding loaded loaded_by entries entries_by tabled count count_from
       many_fields k = rw (le-leb (length t) max_tuple h) (go (header array_by t) (sym i ∙ q))
         where
-          go : (r : Header) → Some (n, at) ≡ natural_by t (count_from r t) → ((Err Bad) ≡ loaded_by (length l) r t) × (l ≡ tabled (entries_by (length l) r t) l)
+          go : (r : Header) → Some (n, at) ≡ natural_by t (count_from r t) → (Err Bad ≡ loaded_by (length l) r t) × (l ≡ tabled (entries_by (length l) r t) l)
           go (Some (m, e)) q = let j = (some_pair_parts _ _ _ _ q).0 in rw (← j, lt-leb n max_fields k) (refl, refl)
           go None q = impossible cc
 

@@ -1,5 +1,5 @@
 -- Inner: a tuple judged, and the places of its fields in a table.
-use Rattle.std.specs.Prelude.{ℕ, ◌<◌, ◌≡◌, List, [], ◌++◌, leb, length, drop, Some, None, Ok, Err, Result, Option as CodeOption}
+use Rattle.std.specs.Prelude.{ℕ, ◌≡◌, List, [], ◌++◌, leb, length, drop, Some, None, Ok, Err, Result, Option as CodeOption}
 use Rattle.std.proofs.Math.Option.{Option, none, some}
 use Rattle.msgpack_first_bytes.specs.Bytes.{Bytes, pick}
 use Rattle.msgpack_values.specs.Value.{shift, value}

@@ -19,6 +19,7 @@ pub enum Bitwise {
 
 // What alters a field: `+` or `-` (true) with an integer; `&`, `^` or `|` with a number; `:` with the
 // position, from 0, the count, and the start of the argument, which ends where the operation ends.
+// Stays: the bool of Sum, since two variants would repeat one arm wherever a Change is met.
 #[derive(Clone, Copy)]
 pub enum Change {
     Sum(bool, Int),

@@ -2,7 +2,6 @@
 use mathlib.Core.Path.{sym, ap, ◌∙◌}
 use native.Mathlib.Omega.{arith}
 use borrow.Author.Tests.{eqb-true}
-use Rattle.std.specs.Result.{result_ok}
 use Rattle.msgpack_first_bytes.specs.Entry.{entry_of, positive_fixint}
 use Rattle.msgpack_scalars.proofs.Short.{integer_past, integer-small}
 use Rattle.update_parts.proofs.Reading.{integer-at}
