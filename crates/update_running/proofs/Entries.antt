@@ -5,9 +5,10 @@ use mathlib.Core.Bool.{Bool, true, false}
 use mathlib.Core.List.{List, [], ◌∷◌, map}
 use Prim.Native.Nat.{ℕ, zero, suc, ◌+◌, ◌-◌, ◌*◌, ◌<◌, ◌≤◌, min}
 use native.Mathlib.Omega.{arith}
+use native.Mathlib.Numerals.{add-one}
 use borrow.Author.Tests.{lt-ltb, le-ltb, lt-leb, le-leb}
 use lib.Dec.{leb}
-use lib.ListN.{length, take, drop, get_or, set}
+use lib.ListN.{length, take, drop, get_or, set, drop_of_length-le}
 use lib.Seq.{drop-cons, drop-drop, take-take}
 use Rattle.msgpack_first_bytes.specs.Bytes.{Bytes}
 use Rattle.msgpack_writing.specs.Forms.{unsigned_form, array_header}
@@ -16,48 +17,37 @@ use Rattle.tuples.specs.Limits.{max_fields, max_tuple}
 use Rattle.update_places.specs.Place.{length_of, sum}
 use Rattle.update_places.proofs.Kept.{drop-take}
 use Rattle.update_table.specs.Table.{window, added, head_added, removed, head_removed}
+use Rattle.update_table.proofs.Windows.{length-window}
 use Rattle.tuples.specs.declared.Refusal.TheVariants.{BadList, TooLarge}
 use Rattle.update_planning.specs.Plan.{Planned}
 use Rattle.update_running.specs.Course.{Course}
 use Rattle.update_running.specs.declared.Stage.{Stage}
-use Rattle.update_running.specs.Steps.{Performed, entry_of, laid_from, fitting, gone_place, gone_places, gone_bytes, bytes_put, put_stage, add_stage, cut_stage, performed, table_after, back_after}
+use Rattle.update_running.specs.Steps.{Performed, entry_of, laid_from, fitting, head_length, gone_place, gone_places, gone_bytes, bytes_put, put_stage, add_stage, cut_stage, performed, table_after, back_after}
 use Rattle.update_running.specs.Carrying.{finishes_by, finishing}
 use Rattle.update_altering.specs.declared.Obstacle.TheVariants.{Refused}
 use Rattle.update_planning.specs.declared.TableEdit.TheVariants.{Add, Cut, Put}
 use Rattle.update_running.specs.declared.Unfinished.TheVariants.{Refused as RefusedAt}
 
--- ---- entries one by one
+-- ---- entries one by one: what is done with them, and then with those that are left, is what was to be done at first
 
-module _ (d : List ℕ) (from m i : ℕ) (h : i < m) (k : from + m ≤ length d) where
-  one_more : window (from + i) (m - i) d ≡ get_or d (from + i) 0 ∷ window (from + (i + 1)) (m - (i + 1)) d
-  unfolding window
-  one_more =
-      let e : m - i ≡ suc (m - (i + 1)) = omega arith in
-      let f : from + (i + 1) ≡ suc (from + i) = omega arith in
-      rw (e, drop-cons d (from + i) 0 (omega arith), f)
-
-  pub sum_turn : (g : ℕ → ℕ) → g (get_or d (from + i) 0) + sum (map g (window (from + (i + 1)) (m - (i + 1)) d)) ≡ sum (map g (window (from + i) (m - i) d))
+module _ (d : List ℕ) (i : ℕ) (h : i < length d) (g : ℕ → ℕ) where
+  pub sum_turn : g (get_or d i 0) + sum (map g (drop (i + 1) d)) ≡ sum (map g (drop i d))
   unfolding sum
-  sum_turn g = rw one_more
+  sum_turn = rw (drop-cons d i 0 h, add-one)
 
-  pub laid_turn : (g : ℕ → ℕ) (laid : ℕ) (back : List ℕ)
-      → laid_from (laid + (i + 1)) (map g (window (from + (i + 1)) (m - (i + 1)) d)) (set back (laid + i) (g (get_or d (from + i) 0)))
-      ≡ laid_from (laid + i) (map g (window (from + i) (m - i) d)) back
+  pub laid_turn : (laid : ℕ) (back : List ℕ)
+      → laid_from (laid + (i + 1)) (map g (drop (i + 1) d)) (set back (laid + i) (g (get_or d i 0))) ≡ laid_from (laid + i) (map g (drop i d)) back
   unfolding laid_from
-  laid_turn g laid back = let e : laid + (i + 1) ≡ suc (laid + i) = omega arith in rw (one_more, e)
+  laid_turn laid back = let e : laid + (i + 1) ≡ suc (laid + i) = omega arith in rw (drop-cons d i 0 h, e, add-one)
 
-module _ (g : ℕ → ℕ) (from m i : ℕ) (d : List ℕ) (h : m ≤ i) where
-  none : map g (window from (m - i) d) ≡ []
-  unfolding window
-  none = let e : m - i ≡ 0 = omega arith in rw e
-
-  pub sum_end : sum (map g (window from (m - i) d)) ≡ 0
+module _ (g : ℕ → ℕ) (d : List ℕ) (i : ℕ) (h : length d ≤ i) where
+  pub sum_end : sum (map g (drop i d)) ≡ 0
   unfolding sum
-  sum_end = rw none
+  sum_end = rw (drop_of_length-le d {i = i} h)
 
-  pub laid_end : (k : ℕ) (back : List ℕ) → laid_from k (map g (window from (m - i) d)) back ≡ back
+  pub laid_end : (k : ℕ) (back : List ℕ) → laid_from k (map g (drop i d)) back ≡ back
   unfolding laid_from
-  laid_end k back = rw none
+  laid_end k back = rw (drop_of_length-le d {i = i} h)
 
 -- ---- a part of the entries
 
@@ -92,14 +82,11 @@ module _ (g : ℕ → ℕ) where
       let b : g (get_or d (head + f) 0) + 0 ≤ sum (map g (window head n d)) = rw e at a in
       omega arith
 
-pub small-sum : (h n from : ℕ) (d : List ℕ) → h ≤ 12 → sum (map (λ (p : ℕ). h + length_of p) (window from n d)) ≤ 32780 * n
-unfolding window sum length_of
-small-sum h n from d k = go n (drop from d)
-  where
-    go : (n : ℕ) (s : List ℕ) → sum (map (λ (p : ℕ). h + length_of p) (take n s)) ≤ 32780 * n
-    go zero s = omega arith
-    go (suc n) [] = omega arith
-    go (suc n) (p ∷ s) = let i = go n s in omega arith
+-- as much more for each
+pub more-sum : (c : ℕ) (s : List ℕ) → sum (map (λ (p : ℕ). c + length_of p) s) ≡ length s * c + sum (map length_of s)
+unfolding sum
+more-sum c [] = omega arith
+more-sum c (p ∷ s) = let h = more-sum c s in omega arith
 
 -- ---- the limits
 
@@ -165,17 +152,21 @@ module _ (z : Stage) (table back : List ℕ) (f : ℕ) where
         let e : fitting (z.fields + 1) (z.bytes + length_of p) ≡ true = rw (← b) (sym q ∙ t) in
         (rw (b, i, j, l, d.0) (simp e), rw d.1 (simp e), rw (o, m) (simp e))
 
-  pub cut-done : (m head h low tail k w : ℕ) (table' back' : List ℕ) → h ≡ length (unsigned_form f)
-      → (k ≡ gone_bytes f m z table) × (w ≡ sum (map (λ (p : ℕ). 3 + h + length_of p) (gone_places f m z table)))
+  pub cut-done : z.head + z.fields ≤ length table → (m head h low tail k : ℕ) → f + m ≤ z.fields → (places : List ℕ) → places ≡ gone_places f m z table → (table' back' : List ℕ)
+      → h ≡ length (unsigned_form f) → k ≡ sum (map length_of places)
       → low ≡ min z.low f → tail ≡ min z.tail (z.fields - (f + m))
       → (head ≡ head_removed (length table) z.head z.fields f m) × (table' ≡ removed z.head z.fields f m table)
-      → back' ≡ laid_from z.laid (map (entry_of 0x21 f) (gone_places f m z table)) back
+      → back' ≡ laid_from z.laid (map (entry_of 0x21 f) places) back
       → Does (Ok (Cut f m)) z table back
       (Ok
-      record { head = head; fields = z.fields - m; bytes = z.bytes - k; used = z.used; laid = z.laid + m; back = z.back + w; low = low; tail = tail })
+      record { head = head; fields = z.fields - m; bytes = z.bytes - k; used = z.used; laid = z.laid + m; back = z.back + (m * (3 + h) + k); low = low; tail = tail })
       table' back'
   unfolding cut_stage
-  cut-done m head h low tail k w table' back' i g j l d o = (rw (g.0, g.1, i, j, l, d.0), d.1, o)
+  cut-done inside m head h low tail k among places e table' back' i g j l d o =
+      let n : length (gone_places f m z table) ≡ m = length-window table (z.head + f) m (omega arith) in
+      let w : m * (3 + h) + k ≡ sum (map (λ (p : ℕ). head_length f + length_of p) (gone_places f m z table))
+      = rw (g, e, i) (sym (rw n at (more-sum (head_length f) (gone_places f m z table)))) in
+      (rw (w, g, e, j, l, d.0), d.1, rw e at o)
 
 pub by_plan : (z : Stage) (table back : List ℕ) (x y : Planned) (r : Performed) (t b : List ℕ) → y ≡ x → Does x z table back r t b → Does y z table back r t b
 by_plan z table back x y r t b e d = rw e d

@@ -11,6 +11,8 @@ use Rattle.tuples.specs.Edit.{plans, Run, refused, done, run, undo_of}
 use Rattle.tuples.specs.declared.Refusal.{Refusal}
 use Rattle.tuples.specs.declared.Refusal.TheVariants.{BadTuple, BadList}
 use Rattle.update_places.specs.Place.{Sources}
+use Rattle.update_loading.specs.declared.Unloaded.{Unloaded, TheVariants.Bad}
+use Rattle.update_loading.specs.declared.Unloaded.TheVariants as Loading
 use Rattle.update_running.specs.declared.Stage.{Stage}
 use Rattle.update_running.specs.Course.{Course}
 use Rattle.update_running.specs.Held.{fields_now, Held}
@@ -90,6 +92,11 @@ pub record Begun (t l w : Bytes) (table back : List ℕ) (n first : ℕ) (z : St
   pub work : length w ≤ work_room
   pub legal : Each (value field_depth) (fields_now t l w table z)
   pub used : z.used ≡ 0
+
+-- why a list is not done whose tuple is not loaded
+abbrev pub unfinished_by : Unloaded → Unfinished
+unfinished_by Bad = Refused BadTuple 0
+unfinished_by Loading.NoRoom = NoRoom
 
 -- all operations are read, up to a place: the list ends there, or it is refused
 abbrev pub finishes_by : Course → Ran

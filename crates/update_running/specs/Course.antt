@@ -1,6 +1,7 @@
 -- Inner: one operation of a list, in the course of a run.
 use Rattle.std.specs.Prelude.{ℕ, List, Ok, Err, Result}
 use Rattle.msgpack_first_bytes.specs.Bytes.{Bytes}
+use Rattle.tuples.specs.declared.Refusal.{Refusal}
 use Rattle.update_numbers.specs.FieldNumber.{Field}
 use Rattle.update_operations.specs.declared.Action.{Action}
 use Rattle.update_planning.specs.Plan.{planned, work_after, Planned}

@@ -2,16 +2,15 @@
 // table of places; no byte of a field moves.
 #![tactic(auto)]
 
-ghost use Rattle.std.specs.Prelude.{◌≡◌, [], map, ℕ, ◌+◌, ◌-◌, ◌^◌, ◌<◌, ◌≤◌, min, length, set};
+ghost use Rattle.std.specs.Prelude.{◌≡◌, [], map, ℕ, ◌+◌, ◌-◌, ◌^◌, ◌<◌, ◌≤◌, length, set};
 ghost use Rattle.std.proofs.Math.Option.{some};
 ghost use Rattle.tuples.specs.Limits.{max_fields, max_operations};
 ghost use Rattle.tuples.specs.Tuple.{fields_of};
 ghost use Rattle.update_places.specs.Place.{length_of, sum};
-ghost use Rattle.update_table.specs.Table.{window};
 ghost use Rattle.update_running.specs.Steps.{entry_of, laid_from, old_of, fitting, performed, table_after, back_after, Among, Sound};
 ghost use Rattle.update_running.specs.Held.{fields_now};
 ghost use Rattle.update_running.specs.Course.{stepped, work_step, table_step, back_step, CourseSound};
-ghost use Rattle.update_running.specs.Carrying.{Carries, Begun, finishing};
+ghost use Rattle.update_running.specs.Carrying.{Carries, Begun, finishing, unfinished_by};
 ghost use Rattle.update_planning.specs.declared.TableEdit.TheVariants.{Add, Put, Cut};
 
 use update_altering::Obstacle;
@@ -19,7 +18,7 @@ use tuples::{MAX_FIELDS, MAX_LIST, MAX_OPERATIONS, MAX_TUPLE, Refusal};
 use update_loading::Unloaded;
 use update_numbers::Field;
 use update_operations::Action;
-use update_planning::{TableEdit, Planned};
+use update_planning::{Planned, TableEdit};
 
 // A table of so many entries has room for every tuple and every list.
 pub const TABLE_ROOM: usize = MAX_FIELDS + MAX_OPERATIONS + MAX_OPERATIONS;
@@ -48,8 +47,6 @@ pub struct Stage {
     pub tail: usize,
 }
 
-// What a list comes to: the arrays are too small for the tuple and the list; the work array is full at an
-// operation, given by its place and its index; it is refused; all is done.
 // Why a list is not done: the arrays are too small for the tuple and the list; the work array is full at an
 // operation, given by its place and its index; an operation, or the list, is refused.
 #[derive(Clone, Copy)]
@@ -59,52 +56,42 @@ pub enum Unfinished {
     Refused(Refusal, usize),
 }
 
+// So that `?` passes on why a tuple is not loaded.
+impl From<Unloaded> for Unfinished {
+    ghost from_gives = { λ unloaded unfinished. unfinished ≡ unfinished_by unloaded };
+
+    fn from(unloaded: Unloaded) -> Unfinished {
+        match unloaded {
+            Unloaded::Bad => Unfinished::Refused(Refusal::BadTuple, 0),
+            Unloaded::NoRoom => Unfinished::NoRoom,
+        }
+    }
+}
+
+// What a list comes to: the stage when all is done.
 pub type Ran = Result<Stage, Unfinished>;
 
+// The stage after an operation.
 type Performed = Result<Stage, Obstacle>;
 
 // In the course of a run: the stage; or the refusal of an operation, after which what is left is only read,
 // since a list that is refused is refused before any of its operations.
 type Course = Result<Stage, (Refusal, usize)>;
 
+// The course after an operation; or the stage at which the work array is full.
 type Stepped = Result<Course, Stage>;
-
-// Of entries that go: the bytes of their fields, and of the operations that bring them back.
-#[derive(Clone, Copy)]
-struct Gone {
-    bytes: usize,
-    back: usize,
-}
-
-fn least(a: usize, b: usize) -> usize
-    ensures { result ≡ min a b }
-{
-    if a < b { a } else { b }
-}
-
-// How far b is past a.
-fn past(a: usize, b: usize) -> usize
-    ensures { result ≡ b - a }
-{
-    if b < a {
-        return 0;
-    }
-    b - a
-}
 
 // Whether n fields of so many bytes are within the limits, the shortest header counted.
 fn fits(n: usize, bytes: usize) -> bool
     requires { bytes < 2 ^ 32 }
     ensures { result ≡ fitting n bytes }
 {
-    if MAX_FIELDS < n {
-        return false;
-    }
-    msgpack_writing::array_header_length(n as u32) + bytes <= MAX_TUPLE
+    n <= MAX_FIELDS && msgpack_writing::array_header_length(n as u32) + bytes <= MAX_TUPLE
 }
 
 // ---- the undo list, as entries
 
+// Stays: mark, field number and place in one word, since `Held` and `undo_in` speak of the entries as numbers.
 fn entry_of(mark: u64, f: usize, p: u32) -> u64
     requires { (mark < 2 ^ 8) × (f < 2 ^ 16) }
     ensures { result ≡ entry_of mark f p }
@@ -121,33 +108,26 @@ fn lay(back: &mut [u64], laid: usize, entry: u64)
     }
 }
 
-// An entry for each of the m that go, from `from` on.
-fn lay_removed(table: &[u32], from: usize, m: usize, f: usize, back: &mut [u64], laid: usize)
-    requires { (from + m ≤ length table.now) × (f < 2 ^ 16) × (laid + m < 2 ^ 63) }
-    ensures { back.new ≡ laid_from laid (map (entry_of 0x21 f) (window from m table.now)) back.old }
+// An entry for each of the places that go.
+fn lay_removed(places: &[u32], f: usize, back: &mut [u64], laid: usize)
+    requires { (f < 2 ^ 16) × (laid + length places.now < 2 ^ 63) }
+    ensures { back.new ≡ laid_from laid (map (entry_of 0x21 f) places.now) back.old }
 {
-    let mut i: usize = 0;
-    while i < m {
-        lay(back, laid + i, entry_of(INSERT, f, table[from + i]));
-        i += 1;
+    for (i, p) in places.iter().enumerate() {
+        lay(back, laid + i, entry_of(INSERT, f, *p));
     }
 }
 
-fn gone_of(table: &[u32], from: usize, m: usize, head: usize) -> Gone
-    requires { (from + m ≤ length table.now) × (m ≤ max_fields) × (head ≤ 12) }
-    ensures { (result.bytes ≡ sum (map length_of (window from m table.now)))
-        × (result.back ≡ sum (map (λ (p : ℕ). head + length_of p) (window from m table.now))) }
+// The bytes of the fields that go.
+fn gone_of(places: &[u32]) -> usize
+    requires { length places.now ≤ max_fields }
+    ensures { result ≡ sum (map length_of places.now) }
 {
     let mut bytes: usize = 0;
-    let mut back: usize = 0;
-    let mut i: usize = 0;
-    while i < m {
-        let k = update_places::length_of(table[from + i]);
-        bytes += k;
-        back += head + k;
-        i += 1;
+    for p in places {
+        bytes += update_places::length_of(*p);
     }
-    Gone { bytes, back }
+    bytes
 }
 
 // ---- plans performed
@@ -175,14 +155,13 @@ fn put_field(
     lay(back, stage.laid, entry_of(ASSIGN, f, old));
     table[at] = p;
     Ok(Stage {
-        head: stage.head,
-        fields: stage.fields,
         bytes,
         used,
         laid: stage.laid + 1,
         back: stage.back + (3 + msgpack_writing::unsigned_length(f as u64) + gone),
-        low: least(stage.low, f),
-        tail: least(stage.tail, stage.fields - (f + 1)),
+        low: stage.low.min(f),
+        tail: stage.tail.min(stage.fields - (f + 1)),
+        ..stage
     })
 }
 
@@ -203,11 +182,11 @@ fn add_field(table: &mut [u32], back: &mut [u64], f: usize, p: u32, stage: Stage
         head,
         fields: n + 1,
         bytes,
-        used: stage.used,
         laid: stage.laid + 1,
         back: stage.back + (3 + msgpack_writing::unsigned_length(f as u64) + 1),
-        low: least(stage.low, f),
-        tail: least(stage.tail, n - f),
+        low: stage.low.min(f),
+        tail: stage.tail.min(n - f),
+        ..stage
     })
 }
 
@@ -219,23 +198,19 @@ fn cut_fields(table: &mut [u32], back: &mut [u64], f: usize, m: usize, stage: St
 {
     let n = stage.fields;
     let from = stage.head + f;
-    let gone = gone_of(
-        table,
-        from,
-        m,
-        3 + msgpack_writing::unsigned_length(f as u64),
-    );
-    lay_removed(table, from, m, f, back, stage.laid);
+    let places = &table[from..from + m];
+    let gone = gone_of(places);
+    lay_removed(places, f, back, stage.laid);
     let head = update_table::remove(table, stage.head, n, f, m);
     Ok(Stage {
         head,
         fields: n - m,
-        bytes: stage.bytes - gone.bytes,
-        used: stage.used,
+        bytes: stage.bytes - gone,
         laid: stage.laid + m,
-        back: stage.back + gone.back,
-        low: least(stage.low, f),
-        tail: least(stage.tail, n - (f + m)),
+        back: stage.back + (m * (3 + msgpack_writing::unsigned_length(f as u64)) + gone),
+        low: stage.low.min(f),
+        tail: stage.tail.min(n - (f + m)),
+        ..stage
     })
 }
 
@@ -245,12 +220,10 @@ fn perform(table: &mut [u32], back: &mut [u64], plan: Planned, stage: Stage) -> 
         × (table.new ≡ table_after plan stage table.old)
         × (back.new ≡ back_after plan stage table.old back.old) }
 {
-    match plan {
-        Err(Obstacle::Refused(refusal)) => Err(Obstacle::Refused(refusal)),
-        Err(Obstacle::Full) => Err(Obstacle::Full),
-        Ok(TableEdit::Put(f, p, used)) => put_field(table, back, f, p, used, stage),
-        Ok(TableEdit::Add(f, p)) => add_field(table, back, f, p, stage),
-        Ok(TableEdit::Cut(f, m)) => cut_fields(table, back, f, m, stage),
+    match plan? {
+        TableEdit::Put(f, p, used) => put_field(table, back, f, p, used, stage),
+        TableEdit::Add(f, p) => add_field(table, back, f, p, stage),
+        TableEdit::Cut(f, m) => cut_fields(table, back, f, m, stage),
     }
 }
 
@@ -289,20 +262,18 @@ fn step(
         × (table.new ≡ table_step course tuple.now list.now work.old table.old field action end)
         × (back.new ≡ back_step course tuple.now list.now work.old table.old back.old field action end) }
 {
-    match course {
-        Err((refusal, j)) => Ok(Err((refusal, j))),
-        Ok(stage) => {
-            let n = stage.fields;
-            let old = entry_at(table, stage.head, n, field);
-            let plan = update_planning::plan(
-                tuple, list, work, stage.used, old, n, field, action, end,
-            );
-            match perform(table, back, plan, stage) {
-                Err(Obstacle::Refused(refusal)) => Ok(Err((refusal, i))),
-                Err(Obstacle::Full) => Err(stage),
-                Ok(next) => Ok(Ok(next)),
-            }
-        }
+    let Ok(stage) = course else {
+        return Ok(course);
+    };
+    let n = stage.fields;
+    let old = entry_at(table, stage.head, n, field);
+    let plan = update_planning::plan(
+        tuple, list, work, stage.used, old, n, field, action, end,
+    );
+    match perform(table, back, plan, stage) {
+        Err(Obstacle::Refused(refusal)) => Ok(Err((refusal, i))),
+        Err(Obstacle::Full) => Err(stage),
+        Ok(next) => Ok(Ok(next)),
     }
 }
 
@@ -313,10 +284,7 @@ fn finished(list: &[u8], at: usize, course: Course) -> Ran
     if at < list.len() {
         return Err(Unfinished::Refused(Refusal::BadList, 0));
     }
-    match course {
-        Ok(stage) => Ok(stage),
-        Err((refusal, i)) => Err(Unfinished::Refused(refusal, i)),
-    }
+    course.map_err(|(refusal, i)| Unfinished::Refused(refusal, i))
 }
 
 // The operations of a list from the one at `start` on, which is the `first` of `count`.
@@ -338,23 +306,17 @@ fn run(
 {
     let mut course = Ok(stage);
     let mut at = start;
-    let mut i = first;
-    while i < count {
+    for i in first..count {
         let Some((field, action, end)) = update_operations::operation_at(list, at, base) else {
             return Err(Unfinished::Refused(Refusal::BadList, 0));
         };
-        match step(
+        course = match step(
             tuple, list, work, table, back, field, action, end, i, course,
         ) {
-            Err(full) => {
-                return Err(Unfinished::Full(full, at, i));
-            }
-            Ok(next) => {
-                course = next;
-            }
-        }
+            Ok(next) => next,
+            Err(full) => return Err(Unfinished::Full(full, at, i)),
+        };
         at = end;
-        i += 1;
     }
     finished(list, at, course)
 }
@@ -366,7 +328,7 @@ fn left_of(first: usize, count: usize) -> usize
     if MAX_OPERATIONS < count {
         return 0;
     }
-    past(first, count)
+    count.saturating_sub(first)
 }
 
 // The tuple is judged, and the operations of the list run on it from the one at `start` on, which is the
@@ -393,29 +355,19 @@ pub fn carry_out(
         return Err(Unfinished::NoRoom);
     }
     let high = table.len() - left;
-    match update_loading::load(tuple, &mut table[left..high]) {
-        Err(Unloaded::Bad) => Err(Unfinished::Refused(Refusal::BadTuple, 0)),
-        Err(Unloaded::NoRoom) => Err(Unfinished::NoRoom),
-        Ok((n, from)) => {
-            if MAX_OPERATIONS < count {
-                return Err(Unfinished::Refused(Refusal::BadList, 0));
-            }
-            if MAX_LIST < list.len() {
-                return Err(Unfinished::Refused(Refusal::BadList, 0));
-            }
-            let stage = Stage {
-                head: left,
-                fields: n,
-                bytes: tuple.len() - from,
-                used: 0,
-                laid: 0,
-                back: 0,
-                low: n,
-                tail: n,
-            };
-            run(
-                tuple, list, base, start, first, count, work, table, back, stage,
-            )
-        }
+    let (n, from) = update_loading::load(tuple, &mut table[left..high])?;
+    if MAX_OPERATIONS < count || MAX_LIST < list.len() {
+        return Err(Unfinished::Refused(Refusal::BadList, 0));
     }
+    let stage = Stage {
+        head: left,
+        fields: n,
+        bytes: tuple.len() - from,
+        used: 0,
+        laid: 0,
+        back: 0,
+        low: n,
+        tail: n,
+    };
+    run(tuple, list, base, start, first, count, work, table, back, stage)
 }

@@ -10,7 +10,7 @@ use lib.Dec.{leb, ltb}
 use lib.ListN.{length, take, drop, set, get_or, length-drop}
 use lib.Seq.{paste, drop-cons, length_paste_head, length-take-le, set_at, take-take, drop-drop}
 use borrow.Rule.Slice.PartMut.{put_mid}
-use Rattle.core.specs.List.{copy_within}
+use Rattle.std.specs.List.{copy_within}
 use Rattle.update_table.specs.Table.{opens, added, head_added, closes, removed, head_removed}
 
 impossible : {A : Type 0} → ◌≡◌ {A = Bool} false true → A
