@@ -35,12 +35,3 @@ returns c =
     both-written _ _ c.args.out.now c.args.undo.now (c.tuple_length-length.ensures ∙ c.requires.0.long) L.long
     (omega (arith, c.requires.0.long, c.tuple_length-length.ensures, c.if-out-length.false)) (omega (arith, L.long, c.if-undo-undo_length.false)) c.write_tuple.ensures c.write_undo.ensures
     ∙ press-is _ c.args.out.now c.args.undo.now L.is
-
-pub tuple_length-length-requires : goal.tuple_length-length-requires
-tuple_length-length-requires c = let p = c.requires.0 in (omega (arith, p.few), omega (arith, few_bytes p))
-
-pub undo_length-requires : goal.undo_length-requires
-undo_length-requires c = let p = c.requires.1 in p.short
-
-pub write_tuple-requires : goal.write_tuple-requires
-write_tuple-requires c = let p = c.requires.0 in (p, omega (arith, p.long, c.tuple_length-length.ensures))

@@ -10,9 +10,6 @@ use Rattle.updates.proofs.answer_of.Goals as goal
 pub overflow_cast-i : goal.overflow_cast-i
 overflow_cast-i c = omega (arith, few_in c.in-Err-Refused.is (rw c.in-Err-Refused.is at c.in-Err-Refused.field-0-is) c.requires)
 
-pub returns-in-Ok : goal.returns-in-Ok
-returns-in-Ok c = rw c.in-Ok.is
-
 pub returns-in-Err-Refused : goal.returns-in-Err-Refused
 returns-in-Err-Refused c =
     let a = c.args in

@@ -20,11 +20,3 @@ returns-in-Err-NoRoom c =
     let a = c.args in
     let n = rw c.in-Err-NoRoom.field-0-is at c.in-Err-NoRoom.ensures in
     rw (c.press_answer-in-Err-NoRoom.ensures, c.answer_of-in-Err-NoRoom.ensures) (press-long a.tuple.now a.list.now a.index_base a.out.now a.back.now c.judged.result _ _ n.0 n.1 n.2 c.judged.ensures)
-
-pub answer_of-requires-in-Err-Refused : goal.answer_of-requires-in-Err-Refused
-answer_of-requires-in-Err-Refused c = let n = rw c.in-Err-Refused.field-0-is at c.in-Err-Refused.ensures in n.1
-
-pub answer_of-requires-in-Err-NoRoom : goal.answer_of-requires-in-Err-NoRoom
-answer_of-requires-in-Err-NoRoom c =
-    let a = c.args in
-    refuses_few a.tuple.now a.list.now a.index_base c.judged.result _ c.judged.ensures

@@ -25,11 +25,3 @@ returns-in-Err-NoRoom c =
     let a = c.args in
     let n = rw c.in-Err-NoRoom.field-0-is at c.in-Err-NoRoom.ensures in
     rw c.answer_of.ensures (answers-long a.tuple.now a.list.now a.index_base c.judged.result (undo a.tuple.now a.list.now a.index_base) a.out.now _ n.0 n.1 c.judged.ensures)
-
-pub answer_of-requires-in-Err-Refused : goal.answer_of-requires-in-Err-Refused
-answer_of-requires-in-Err-Refused c = let n = rw c.in-Err-Refused.field-0-is at c.in-Err-Refused.ensures in n.1
-
-pub answer_of-requires : goal.answer_of-requires
-answer_of-requires c =
-    let a = c.args in
-    refuses_few a.tuple.now a.list.now a.index_base c.judged.result _ c.judged.ensures

@@ -2,11 +2,6 @@
 use Rattle.updates.proofs.Calls.{told-undo}
 use Rattle.updates.proofs.undo_more.Goals as goal
 
-pub returns-in-Err-NoRoom : goal.returns-in-Err-NoRoom
-returns-in-Err-NoRoom c =
-    let n = rw c.in-Err-NoRoom.field-0-is at c.in-Err-NoRoom.ensures in
-    rw n.0 at c.undo_long.ensures
-
 pub returns-in-Err-Refused : goal.returns-in-Err-Refused
 returns-in-Err-Refused c =
     let a = c.args in

@@ -25,9 +25,6 @@ slice_bounds-one-end c = omega arith
 pub slice_bounds-update_with-end : goal.slice_bounds-update_with-end
 slice_bounds-update_with-end c = sym (length-take-le _ _ (omega arith))
 
-pub slice_bounds-update_with-end-in-turns : goal.slice_bounds-update_with-end-in-turns
-slice_bounds-update_with-end-in-turns c = sym c.turns.invariant.1.1.1.1.1.0
-
 pub returns-in-Err-NoRoom : goal.returns-in-Err-NoRoom
 returns-in-Err-NoRoom c =
     let g = c.turns in
@@ -47,21 +44,6 @@ returns-in-Ok c =
     let a = c.args in
     let h = c.in-Ok.ensures in
     h.0 ∙ told_as a.tuple.now a.list.now a.base g.invariant.0 g.invariant.1.0
-
-pub slice_bounds-write_bytes-end-in-Err-Moved : goal.slice_bounds-write_bytes-end-in-Err-Moved
-slice_bounds-write_bytes-end-in-Err-Moved c = sym c.turns.invariant.1.1.1.1.0
-
-pub slice_bounds-other-end : goal.slice_bounds-other-end
-slice_bounds-other-end c =
-    let g = c.turns in
-    let R = rw c.in-Err-Moved.field-0-is at c.in-Err-Moved.ensures in
-    (rebased_room R.1).0
-
-pub slice_bounds-write_bytes-end-in-Err-Moved-2 : goal.slice_bounds-write_bytes-end-in-Err-Moved-2
-slice_bounds-write_bytes-end-in-Err-Moved-2 c =
-    let g = c.turns in
-    let R = rw c.in-Err-Moved.field-0-is at c.in-Err-Moved.ensures in
-    sym (length-take-le _ _ (rebased_room R.1).0)
 
 pub turns-smaller : goal.turns-smaller
 turns-smaller c =
