@@ -102,7 +102,12 @@ fn step(run: Run, word: &[u8], bytes: &[u8], carry: &mut [u8]) -> Run {
             session: reset(),
             taken,
         },
-        Some(b's') => fed(run, piece_of(bytes, taken, decimal(&word[1..])), true, carry),
+        Some(b's') => fed(
+            run,
+            piece_of(bytes, taken, decimal(&word[1..])),
+            true,
+            carry,
+        ),
         _ => fed(run, piece_of(bytes, taken, decimal(word)), false, carry),
     }
 }

@@ -82,19 +82,18 @@ module _ {t l w : Bytes} {es : List ℕ} {out : Bytes} {at : ℕ} (G : Gathers t
         ∙ ap (λ (n : ℕ). length (F g.before) + n) (ap length (fields-append t l w side more) ∙ length-append (F side) (F more))
 
     pub side_gathers : Gathers t l w side cur to × Side side
-    side_gathers =
-        (
-          record {
-            sources = G.sources;
-            few = let e = ap length g.is ∙ length-append g.before left in let f = ap length b.is ∙ length-append side more in omega (arith, G.few);
-            whole =
-                let W = λ (x : List ℕ). map length (fields_in t l w x) ≡ map length_of x in
-                let m : W left = subst W (ap (drop (length g.before)) g.is ∙ drop-append_seam g.before left) (whole_drop t l w es (length g.before) G.whole) in
-                subst W (ap (take (length side)) b.is ∙ take-append_seam side more) (whole_take t l w left (length side) m);
-            room = omega (arith, sizes, G.room, g.wrote.end, g.wrote.long);
-          },
-          record { start = start_of (get_or side 0 0); chain = chained side more (subst (λ (x : List ℕ). AllAdjacentBelow (λ p q. eqb (start_of p + length_of p) (start_of q) ≡ true) x (length side)) b.is b.adjacent) (start_of (get_or side 0 0)) refl },
-        )
+    side_gathers = (
+      record {
+        sources = G.sources;
+        few = let e = ap length g.is ∙ length-append g.before left in let f = ap length b.is ∙ length-append side more in omega (arith, G.few);
+        whole =
+            let W = λ (x : List ℕ). map length (fields_in t l w x) ≡ map length_of x in
+            let m : W left = subst W (ap (drop (length g.before)) g.is ∙ drop-append_seam g.before left) (whole_drop t l w es (length g.before) G.whole) in
+            subst W (ap (take (length side)) b.is ∙ take-append_seam side more) (whole_take t l w left (length side) m);
+        room = omega (arith, sizes, G.room, g.wrote.end, g.wrote.long);
+      },
+      record { start = start_of (get_or side 0 0); chain = chained side more (subst (λ (x : List ℕ). AllAdjacentBelow (λ p q. eqb (start_of p + length_of p) (start_of q) ≡ true) x (length side)) b.is b.adjacent) (start_of (get_or side 0 0)) refl },
+    )
 
     pub side_gathered : {new : Bytes} {k : ℕ} → (k ≡ next to (joined (fields_in t l w side)) cur) × (new ≡ put to (joined (fields_in t l w side)) cur)
         → Gathered t l w es out at more new k

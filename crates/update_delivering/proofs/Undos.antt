@@ -86,7 +86,7 @@ module _ (t l w out : Bytes) (at : ℕ) {es : List ℕ} (E : Entries es (length 
     sizes : length (joined (undo_in t l w g.behind)) + length (entry_bytes t l w e) ≤ length (joined (undo_in t l w es))
     sizes =
         let a = ap (λ (x : List ℕ). length (joined (undo_in t l w x))) split ∙ ap (λ (x : List Bytes). length (joined x)) (undo-append t l w fewer (e ∷ g.behind))
-            ∙ ap length (joined-append (undo_in t l w (e ∷ g.behind)) (undo_in t l w fewer)) ∙ length-append (joined (undo_in t l w (e ∷ g.behind))) (joined (undo_in t l w fewer)) in
+        ∙ ap length (joined-append (undo_in t l w (e ∷ g.behind)) (undo_in t l w fewer)) ∙ length-append (joined (undo_in t l w (e ∷ g.behind))) (joined (undo_in t l w fewer)) in
         let b = ap length grown ∙ length-append (joined (undo_in t l w g.behind)) (entry_bytes t l w e) in
         omega (arith, a, b)
 

@@ -157,12 +157,7 @@ fn write_tuple(sources: Sources, table: &[u32], stage: Stage, out: &mut [u8])
     gather(sources, entries, stage.low, stage.tail, out, at);
 }
 
-fn deliver(
-    sources: Sources,
-    table: &[u32],
-    stage: Stage,
-    out: &mut [u8],
-) -> Result<usize, Refusal>
+fn deliver(sources: Sources, table: &[u32], stage: Stage, out: &mut [u8]) -> Result<usize, Refusal>
     requires { Stands sources.tuple.now sources.list.now sources.work.now table.now stage }
     ensures { Delivers result (bytes (plain (shown sources.entry.tuple.now sources.entry.list.now sources.entry.work.now table.now stage))) out.old out.new }
 {
@@ -312,15 +307,7 @@ pub fn update_with(
 {
     let mut none = [0u64; 0];
     match update_running::carry_out(
-        tuple,
-        list,
-        base,
-        start,
-        first,
-        count,
-        work,
-        table,
-        &mut none,
+        tuple, list, base, start, first, count, work, table, &mut none,
     ) {
         Err(Unfinished::NoRoom) => Err(Unwritten::NoRoom),
         Err(Unfinished::Refused(refusal, i)) => Err(Unwritten::Refused(refusal, i)),
@@ -346,8 +333,9 @@ pub fn undo_with(
         (takes_back (fields_of tuple.now) (rest_of base count 0 start list.now)) out.old out.new work.old table.old }
 {
     let mut back = [0u64; MAX_OPERATIONS];
-    let stage =
-        update_running::carry_out(tuple, list, base, start, 0, count, work, table, &mut back)?;
+    let stage = update_running::carry_out(
+        tuple, list, base, start, 0, count, work, table, &mut back,
+    )?;
     Ok(deliver_undo(Sources { tuple, list, work }, &back, stage, out)?)
 }
 
@@ -368,7 +356,15 @@ pub fn press_with(
         work.old table.old }
 {
     let mut back = [0u64; MAX_OPERATIONS];
-    let stage =
-        update_running::carry_out(tuple, list, base, start, 0, count, work, table, &mut back)?;
-    Ok(deliver_both(Sources { tuple, list, work }, table, &back, stage, out, undo)?)
+    let stage = update_running::carry_out(
+        tuple, list, base, start, 0, count, work, table, &mut back,
+    )?;
+    Ok(deliver_both(
+        Sources { tuple, list, work },
+        table,
+        &back,
+        stage,
+        out,
+        undo,
+    )?)
 }

@@ -37,8 +37,7 @@ type Call = Result<usize, Failed>;
 fn front_of(list: &[u8], base: u64) -> Front
     ensures { Fronts base list.now result }
 {
-    let (count, start) =
-        update_operations::front_of(list, base).unwrap_or((MAX_OPERATIONS + 1, 0));
+    let (count, start) = update_operations::front_of(list, base).unwrap_or((MAX_OPERATIONS + 1, 0));
     Front { count, start }
 }
 
@@ -267,7 +266,11 @@ pub fn undo(tuple: &[u8], list: &[u8], index_base: u64, out: &mut [u8]) -> Answe
 {
     match undone(tuple, list, index_base, out) {
         Err(Failed::NoRoom) => answer_of(judged(tuple, list, index_base), tuple, list),
-        Err(Failed::Refused(refusal, i)) => answer_of(Err(Failed::Refused(refusal, i)), tuple, list),
+        Err(Failed::Refused(refusal, i)) => answer_of(
+            Err(Failed::Refused(refusal, i)),
+            tuple,
+            list,
+        ),
         Ok(length) => answer_of(Ok(length), tuple, list),
     }
 }
@@ -388,7 +391,10 @@ pub fn press(
         Ok((length, undo_length)) => {
             press_answer(answer_of(Ok(length), tuple, list), undo_length)
         }
-        Err(Failed::NoRoom) => press_answer(answer_of(judged(tuple, list, index_base), tuple, list), 0),
+        Err(Failed::NoRoom) => press_answer(
+            answer_of(judged(tuple, list, index_base), tuple, list),
+            0,
+        ),
         Err(Failed::Refused(refusal, i)) => {
             press_answer(answer_of(Err(Failed::Refused(refusal, i)), tuple, list), 0)
         }

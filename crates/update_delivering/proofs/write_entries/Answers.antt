@@ -8,11 +8,11 @@ loop-entry-init c =
     rw (c.into_iter-entry-iterator.ensures.into_iter_gives, c.rev-entry-items.ensures.source, c.iter.ensures.rest) (written-begun _ _ _ c.args.out.now c.args.at c.requires.0 c.requires.1)
 
 pub write_entry-to-requires : goal.write_entry-to-requires
-write_entry-to-requires c = entry-room _ _ _ c.args.out.now c.args.at c.requires.0 c.requires.1 _ c.in-Some.entry.now c.loop-entry.invariant c.in-Some.ensures.steps
+write_entry-to-requires c = entry-room _ _ _ c.args.out.now c.args.at c.requires.0 c.requires.1 c.next.new.self.iter.rest.now c.in-Some.entry.now c.loop-entry.invariant c.in-Some.ensures.steps
 
 pub loop-entry-preserved : goal.loop-entry-preserved
 loop-entry-preserved c =
-    entry_written _ _ _ c.args.out.now c.args.at c.requires.0 c.requires.1 _ c.in-Some.entry.now c.loop-entry.invariant c.in-Some.ensures.steps c.write_entry-to.ensures
+    entry_written _ _ _ c.args.out.now c.args.at c.requires.0 c.requires.1 c.next.new.self.iter.rest.now c.in-Some.entry.now c.loop-entry.invariant c.in-Some.ensures.steps c.write_entry-to.ensures
 
 pub returns : goal.returns
 returns c = written (written-ended _ _ _ c.args.out.now c.args.at c.requires.0 c.requires.1 c.loop-entry.invariant c.in-None.ensures.steps.0)
