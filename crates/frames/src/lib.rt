@@ -25,6 +25,7 @@ pub const HEADER_KEYS: usize = 3;
 pub const KNOWN_KEYS: usize = 17;
 
 // The place of a value that a frame may leave out: exactly its encoding, counted from the first lent byte.
+// Stays: a flag and no Option, since C reads it.
 #[repr(C)]
 #[derive(Clone, Copy)]
 pub struct Place {
@@ -107,6 +108,7 @@ pub struct Written {
     pub length: usize,
 }
 
+// Stays: a refusal's number, since C is told it (FrameAnswer.number) and the claim about cutting compares it.
 // What a size number says: so many bytes are promised from a place on, or the number of its refusal and how many bytes settle that.
 pub type Size = Result<(usize, usize), (u32, usize)>;
 
