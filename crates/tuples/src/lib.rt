@@ -62,6 +62,7 @@ impl From<Refusal> for u32 {
 // A call's answer: 0 with the length written, or a refusal's number with length 0, and with 13 to
 // 16 the operation's index. With 11 the place of the first byte that spoils the tuple, read as one
 // value; with 12 that of the list; absent where that value is whole.
+// Stays: the C interface of `lak_update` and `lak_undo`, as PressAnswer is that of `lak_press`.
 #[repr(C)]
 #[derive(Clone, Copy)]
 pub struct Answer {
