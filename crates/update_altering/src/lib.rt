@@ -95,17 +95,36 @@ fn splice(field: &[u8], position: usize, count: usize, argument: &[u8], out: &mu
 }
 
 // What a change makes of the field of so many bytes that stands at `at`: in the free bytes of the work array alone.
-fn changed(sources: Sources, at: usize, size: usize, change: Change, end: usize, free: &mut [u8]) -> Altered
+fn changed(
+    sources: Sources,
+    at: usize,
+    size: usize,
+    change: Change,
+    end: usize,
+    free: &mut [u8],
+) -> Altered
     requires { size < 2 ^ 15 }
     ensures edit { Alters (changed sources.entry.list.now change end (bytes_from sources.entry.tuple.now sources.entry.list.now sources.entry.work.now at size)) 0 result free.old free.new }
     ensures some { IfOk result (λ n. 0 < n) }
 {
     match change {
-        Change::Sum(minus, v) => put_number(update_computing::sum_of(sources, at, size, v, minus)?, free),
-        Change::Bits(by, v) => put_number(update_computing::bits_of(sources, at, size, v, by)?, free),
+        Change::Sum(minus, v) => {
+            let z = update_computing::sum_of(sources, at, size, v, minus)?;
+            put_number(z, free)
+        }
+        Change::Bits(by, v) => {
+            let z = update_computing::bits_of(sources, at, size, v, by)?;
+            put_number(z, free)
+        }
         Change::Splice(position, count, start) => {
             let argument = update_parts::bytes_of(sources.list, start, end);
-            splice(sources.bytes(at, size), position as usize, count as usize, argument, free)
+            splice(
+                sources.bytes(at, size),
+                position as usize,
+                count as usize,
+                argument,
+                free,
+            )
         }
     }
 }

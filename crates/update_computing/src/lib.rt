@@ -18,7 +18,11 @@ pub fn sum_of(sources: Sources, at: usize, size: usize, v: Int, minus: bool) -> 
     ensures { Computes (sum_edit minus v (bytes_from sources.entry.tuple.now sources.entry.list.now sources.entry.work.now at size)) result }
 {
     let (z, _) = update_numbers::any_integer(sources.bytes(at, size), 0).ok_or(Refusal::Unsuited)?;
-    let sum = if minus { update_sums::subtract(z, v) } else { update_sums::add(z, v) };
+    let sum = if minus {
+        update_sums::subtract(z, v)
+    } else {
+        update_sums::add(z, v)
+    };
     sum.ok_or(Refusal::OutOfRange)
 }
 

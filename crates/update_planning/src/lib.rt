@@ -57,7 +57,11 @@ pub fn plan(
     match action {
         Action::Alter(change) if f < n => {
             let to = update_altering::alter(tuple, list, work, used, old, change, end)?;
-            Ok(TableEdit::Put(f, update_places::place_of(IN_WORK + used % 0x2_0000, to - used), to))
+            Ok(TableEdit::Put(
+                f,
+                update_places::place_of(IN_WORK + used % 0x2_0000, to - used),
+                to,
+            ))
         }
         Action::Assign(start) if f < n => Ok(TableEdit::Put(f, brought(start, end)?, used)),
         Action::Assign(start) if f == n => Ok(TableEdit::Add(f, brought(start, end)?)),

@@ -22,7 +22,7 @@ use Rattle.tuples.specs.declared.Refusal.TheVariants.{BadList, TooLarge}
 use Rattle.update_planning.specs.Plan.{Planned}
 use Rattle.update_running.specs.Course.{Course}
 use Rattle.update_running.specs.declared.Stage.{Stage}
-use Rattle.update_running.specs.Steps.{Performed, entry_of, laid_from, fitting, head_length, gone_place, gone_places, gone_bytes, bytes_put, put_stage, add_stage, cut_stage, performed, table_after, back_after}
+use Rattle.update_running.specs.Steps.{Performed, entry_of, laid_from, fitting, head_length, gone_place, gone_places, bytes_put, put_stage, add_stage, cut_stage, performed, table_after, back_after}
 use Rattle.update_running.specs.Carrying.{finishes_by, finishing}
 use Rattle.update_altering.specs.declared.Obstacle.TheVariants.{Refused}
 use Rattle.update_planning.specs.declared.TableEdit.TheVariants.{Add, Cut, Put}

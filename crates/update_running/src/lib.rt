@@ -13,8 +13,8 @@ ghost use Rattle.update_running.specs.Course.{stepped, work_step, table_step, ba
 ghost use Rattle.update_running.specs.Carrying.{Carries, Begun, finishing, unfinished_by};
 ghost use Rattle.update_planning.specs.declared.TableEdit.TheVariants.{Add, Put, Cut};
 
-use update_altering::Obstacle;
 use tuples::{MAX_FIELDS, MAX_LIST, MAX_OPERATIONS, MAX_TUPLE, Refusal};
+use update_altering::Obstacle;
 use update_loading::Unloaded;
 use update_numbers::Field;
 use update_operations::Action;
@@ -267,9 +267,7 @@ fn step(
     };
     let n = stage.fields;
     let old = entry_at(table, stage.head, n, field);
-    let plan = update_planning::plan(
-        tuple, list, work, stage.used, old, n, field, action, end,
-    );
+    let plan = update_planning::plan(tuple, list, work, stage.used, old, n, field, action, end);
     match perform(table, back, plan, stage) {
         Err(Obstacle::Refused(refusal)) => Ok(Err((refusal, i))),
         Err(Obstacle::Full) => Err(stage),
@@ -369,5 +367,7 @@ pub fn carry_out(
         low: n,
         tail: n,
     };
-    run(tuple, list, base, start, first, count, work, table, back, stage)
+    run(
+        tuple, list, base, start, first, count, work, table, back, stage,
+    )
 }

@@ -6,14 +6,14 @@ use Rattle.update_altering.specs.Altering.{changed}
 use Rattle.update_altering.proofs.Strings.{no_longer}
 use Rattle.update_altering.proofs.changed.Goals as goal
 
-pub returns-in_err-sum_of-in-Sum-clause-edit : goal.returns-in_err-sum_of-in-Sum-clause-edit
+pub returns-in_err-z-in-Sum-clause-edit : goal.returns-in_err-z-in-Sum-clause-edit
 unfolding changed
-returns-in_err-sum_of-in-Sum-clause-edit c = rw (error_left _ _ c.from_residual.ensures.1, c.in-Sum.is, c.in_err-sum_of-in-Sum.ensures.0) (refl, refl)
+returns-in_err-z-in-Sum-clause-edit c = rw (error_left _ _ c.from_residual.ensures.1, c.in-Sum.is, c.in_err-z-in-Sum.ensures.0) (refl, refl)
 
-pub returns-in_err-bits_of-in-Bits-clause-edit : goal.returns-in_err-bits_of-in-Bits-clause-edit
+pub returns-in_err-z-in-Bits-clause-edit : goal.returns-in_err-z-in-Bits-clause-edit
 unfolding changed
-returns-in_err-bits_of-in-Bits-clause-edit c =
-    rw (error_left _ _ c.from_residual-in_err-bits_of-in-Bits.ensures.1, c.in-Bits.is, c.in_err-bits_of-in-Bits.ensures.0) (refl, refl)
+returns-in_err-z-in-Bits-clause-edit c =
+    rw (error_left _ _ c.from_residual-in_err-z-in-Bits.ensures.1, c.in-Bits.is, c.in_err-z-in-Bits.ensures.0) (refl, refl)
 
 pub splice-requires : goal.splice-requires
 splice-requires c =
@@ -21,13 +21,13 @@ splice-requires c =
     let h = no_longer s.tuple.now s.list.now s.work.now c.args.at c.args.size in
     rw c.bytes.ensures (omega arith)
 
-pub returns-in_ok-sum_of-in-Sum-clause-edit : goal.returns-in_ok-sum_of-in-Sum-clause-edit
+pub returns-in_ok-z-in-Sum-clause-edit : goal.returns-in_ok-z-in-Sum-clause-edit
 unfolding changed
-returns-in_ok-sum_of-in-Sum-clause-edit c = rw (c.in-Sum.is, c.in_ok-sum_of-in-Sum.ensures.0) c.put_number.ensures.edit
+returns-in_ok-z-in-Sum-clause-edit c = rw (c.in-Sum.is, c.in_ok-z-in-Sum.ensures.0) c.put_number.ensures.edit
 
-pub returns-in_ok-bits_of-in-Bits-clause-edit : goal.returns-in_ok-bits_of-in-Bits-clause-edit
+pub returns-in_ok-z-in-Bits-clause-edit : goal.returns-in_ok-z-in-Bits-clause-edit
 unfolding changed
-returns-in_ok-bits_of-in-Bits-clause-edit c = rw (c.in-Bits.is, c.in_ok-bits_of-in-Bits.ensures.0) c.put_number-in-Bits.ensures.edit
+returns-in_ok-z-in-Bits-clause-edit c = rw (c.in-Bits.is, c.in_ok-z-in-Bits.ensures.0) c.put_number-in-Bits.ensures.edit
 
 pub returns-in-Splice-clause-edit : goal.returns-in-Splice-clause-edit
 unfolding changed

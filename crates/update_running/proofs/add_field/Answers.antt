@@ -16,7 +16,7 @@ pub returns : goal.returns
 returns c =
     let a = c.args in
     add_done a.stage a.table.now a.back.now a.f a.p _ _ c.length_of.ensures.0 c.fits.ensures c.if-not-fits.false
-    _ _ _ _ _ _ _ c.unsigned_length.ensures c.least.ensures c.least-2.ensures c.entry_of.ensures c.lay.ensures c.add-head.ensures
+    _ _ _ _ _ _ _ c.unsigned_length.ensures c.min.ensures c.min-2.ensures c.entry_of.ensures c.lay.ensures c.add-head.ensures
 
 pub overflow_add-result-3 : goal.overflow_add-result-3
 overflow_add-result-3 c = omega (arith, short c)

@@ -30,7 +30,7 @@ pub returns : goal.returns
 returns c =
     let a = c.args in
     put-done a.stage a.table.now a.back.now a.f a.p a.used _ _ _ c.length_of-gone.ensures.0 c.length_of.ensures.0
-    c.fits.ensures c.if-not-fits.false _ _ _ _ _ c.unsigned_length.ensures c.least.ensures c.least-2.ensures
+    c.fits.ensures c.if-not-fits.false _ _ _ _ _ c.unsigned_length.ensures c.min.ensures c.min-2.ensures
     c.entry_of.ensures c.lay.ensures
 
 pub overflow_add-result-2 : goal.overflow_add-result-2

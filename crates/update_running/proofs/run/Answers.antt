@@ -28,19 +28,13 @@ step-requires c =
     let a = c.args in
     course_sound a.base a.count a.first a.start _ a.tuple.now a.list.now g.work g.table g.back g.i g.at g.course g.invariant.0
 
-pub returns-in-Full : goal.returns-in-Full
-returns-in-Full c =
+pub returns-in-Err : goal.returns-in-Err
+returns-in-Err c =
     let g = c.loop-i in
     let a = c.args in
     let d = operation-is a.base a.list.now g.at c.operation_at.ensures c.in-Some.is in
     let room : length g.work ≤ work_room = let e = g.invariant.1.0 in let h = c.requires.work in omega arith in
-    turn_full a.base a.count a.first a.start _ a.tuple.now a.list.now g.work g.table g.back g.i g.at c.requires.few c.requires.short (omega arith) room d c.requires.sources g.course _ _ _ _ _ g.invariant.0 c.step.ensures c.in-Full.is
-
-pub overflow_add-i : goal.overflow_add-i
-overflow_add-i c = omega arith
-
-pub loop-i-smaller : goal.loop-i-smaller
-loop-i-smaller c = omega arith
+    turn_full a.base a.count a.first a.start _ a.tuple.now a.list.now g.work g.table g.back g.i g.at c.requires.few c.requires.short (omega arith) room d c.requires.sources g.course _ _ _ _ _ g.invariant.0 c.step.ensures c.in-Err.is
 
 pub loop-i-preserved : goal.loop-i-preserved
 loop-i-preserved c =
@@ -48,7 +42,7 @@ loop-i-preserved c =
     let a = c.args in
     let d = operation-is a.base a.list.now g.at c.operation_at.ensures c.in-Some.is in
     let room : length g.work ≤ work_room = let e = g.invariant.1.0 in let h = c.requires.work in omega arith in
-    let n = turn_next a.base a.count a.first a.start _ a.tuple.now a.list.now g.work g.table g.back g.i g.at c.requires.few c.requires.short (omega arith) room d g.course _ _ _ _ _ g.invariant.0 c.step.ensures c.in-Next.is in
+    let n = turn_next a.base a.count a.first a.start _ a.tuple.now a.list.now g.work g.table g.back g.i g.at c.requires.few c.requires.short (omega arith) room d g.course _ _ _ _ _ g.invariant.0 c.step.ensures c.in-Ok.is in
     (n.0, (n.1 ∙ g.invariant.1.0, (search rules, search rules)))
 
 pub returns : goal.returns

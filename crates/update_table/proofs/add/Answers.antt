@@ -7,10 +7,12 @@ pub returns-then-n-f : goal.returns-then-n-f
 returns-then-n-f c =
     let a = c.args in
     not_added a.head a.n a.f a.p a.table.now (λ o.
-    elim c.then-n-f.branch [ then-n-f-via-then-n-f w ↦ omega arith
-    | then-n-f-via-else-n-f+then-head-eq0 w ↦ omega arith
-    | then-n-f-via-else-n-f+else-head-eq0+then-table-n w ↦ omega arith
-    | then-n-f-via-else-n-f+else-head-eq0+else-table-n+then-table-n-2 w ↦ omega arith ])
+    elim c.then-n-f.branch [
+      | then-n-f-via-then-n-f w ↦ omega arith
+      | then-n-f-via-else-n-f+then-head-eq0 w ↦ omega arith
+      | then-n-f-via-else-n-f+else-head-eq0+then-table-n w ↦ omega arith
+      | then-n-f-via-else-n-f+else-head-eq0+else-table-n+then-table-n-2 w ↦ omega arith
+    ])
 
 pub returns-then-f-n : goal.returns-then-f-n
 returns-then-f-n c =

@@ -7,10 +7,12 @@ pub returns-then-n-f : goal.returns-then-n-f
 returns-then-n-f c =
     let a = c.args in
     not_removed a.head a.n a.f a.m a.table.now (λ o.
-    elim c.then-n-f.branch [ then-n-f-via-then-n-f w ↦ omega arith
-    | then-n-f-via-else-n-f+then-n-f-2 w ↦ omega arith
-    | then-n-f-via-else-n-f+else-n-f-2+then-table-n w ↦ omega arith
-    | then-n-f-via-else-n-f+else-n-f-2+else-table-n+then-table-n-2 w ↦ omega arith ])
+    elim c.then-n-f.branch [
+      | then-n-f-via-then-n-f w ↦ omega arith
+      | then-n-f-via-else-n-f+then-n-f-2 w ↦ omega arith
+      | then-n-f-via-else-n-f+else-n-f-2+then-table-n w ↦ omega arith
+      | then-n-f-via-else-n-f+else-n-f-2+else-table-n+then-table-n-2 w ↦ omega arith
+    ])
 
 pub returns-then-f-behind : goal.returns-then-f-behind
 returns-then-f-behind c =

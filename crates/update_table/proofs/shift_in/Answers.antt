@@ -7,6 +7,7 @@ pub loop-entry-preserved : goal.loop-entry-preserved
 loop-entry-preserved c =
     let a = c.args in
     let l = c.loop-entry in
-    let x = c.swap.ensures.x_after ∙ l.invariant.1 in
-    (rw x (carry_turn a.entries.now l.entries l.entry-index a.p l.invariant.0 (omega arith)),
-    c.swap.ensures.y_after ∙ carry_next a.entries.now l.entries l.entry-index a.p l.invariant.0 (omega arith))
+    let x = c.swap.ensures.x_after ∙ l.invariant.1 in (
+      rw x (carry_turn a.entries.now l.entries l.entry-index a.p l.invariant.0 (omega arith)),
+      c.swap.ensures.y_after ∙ carry_next a.entries.now l.entries l.entry-index a.p l.invariant.0 (omega arith),
+    )
