@@ -10,11 +10,10 @@ const STDOUT: i32 = 1;
 
 const UPDATE: u64 = 0x04;
 
-// What a press came to: it went in, with the bytes written of the new record and of its undo list;
-// or the frame, its kind or the call kept it out, with the refusal's number.
+// Why a press stays out: the frame is refused, with a number; it is no update; the call refuses it, with a number,
+// at an operation.
 #[derive(Clone, Copy)]
-enum Press {
-    In(usize, usize),
+enum StayedOut {
     NoFrame(u32),
     NoUpdate,
     Refused(u32, u32),
@@ -27,11 +26,9 @@ fn print(text: &[u8]) {
 // A name, then the bytes in hex.
 fn print_bytes(name: &[u8], bytes: &[u8]) {
     print(name);
-    let mut i: usize = 0;
-    while i < bytes.len() {
+    for b in bytes {
         print(b" ");
-        io::print_hex(STDOUT, bytes[i] as u64, 2);
-        i += 1;
+        io::print_hex(STDOUT, *b as u64, 2);
     }
     print(b"\n");
 }
@@ -42,13 +39,11 @@ fn print_number(words: &[u8], number: u32) {
     io::print_decimal(STDOUT, number as u64);
 }
 
-// Why a press stays out.
-fn print_refusal(press: Press) {
-    match press {
-        Press::In(_, _) => print(b"it went in"),
-        Press::NoFrame(n) => print_number(b"it stays out: no frame, refused with ", n),
-        Press::NoUpdate => print(b"it stays out: the frame is no update"),
-        Press::Refused(n, i) => {
+fn print_refusal(why: StayedOut) {
+    match why {
+        StayedOut::NoFrame(n) => print_number(b"it stays out: no frame, refused with ", n),
+        StayedOut::NoUpdate => print(b"it stays out: the frame is no update"),
+        StayedOut::Refused(n, i) => {
             print_number(b"it stays out: the press is refused with ", n);
             print_number(b" at operation ", i);
         }
@@ -57,34 +52,33 @@ fn print_refusal(press: Press) {
 }
 
 // The frame arrives: its list is carried out on the record, and beside the new record the box
-// writes what takes it back; or nothing is written, and the record stays what it is.
-fn arrive(frame: &[u8], record: &[u8], after: &mut [u8], undo: &mut [u8]) -> Press {
+// writes what takes it back, with both lengths; or nothing is written, and the record stays what it is.
+fn arrive(
+    frame: &[u8],
+    record: &[u8],
+    after: &mut [u8],
+    undo: &mut [u8],
+) -> Result<(usize, usize), StayedOut> {
     let read = frame_reading::read_frame(frame);
     if read.number != 0 {
-        return Press::NoFrame(read.number);
+        return Err(StayedOut::NoFrame(read.number));
     }
     if read.frame.code != UPDATE {
-        return Press::NoUpdate;
+        return Err(StayedOut::NoUpdate);
     }
-    let place = read.frame.tuple;
-    let base = read.frame.index_base;
-    let list = frame_fields::view_of(frame, place);
-    let pressed = updates::press(record, list, base.value, after, undo);
+    let list = frame_fields::view_of(frame, read.frame.tuple);
+    let pressed = updates::press(record, list, read.frame.index_base.value, after, undo);
     if pressed.number != 0 {
-        return Press::Refused(pressed.number, pressed.operation);
+        return Err(StayedOut::Refused(pressed.number, pressed.operation));
     }
-    Press::In(pressed.length, pressed.undo_length)
+    Ok((pressed.length, pressed.undo_length))
 }
 
 // The presses, and both taken back in the turn opposite to theirs; the record is in `last` then.
-fn press_twice(frame: &[u8], record: &[u8], last: &mut [u8]) -> usize {
+fn press_twice(frame: &[u8], record: &[u8], last: &mut [u8]) -> Result<usize, StayedOut> {
     let mut once = [0u8; 64];
     let mut undo_1 = [0u8; 64];
-    let first = arrive(frame, record, &mut once, &mut undo_1);
-    let Press::In(n, m) = first else {
-        print_refusal(first);
-        return 0;
-    };
+    let (n, m) = arrive(frame, record, &mut once, &mut undo_1)?;
     let after_1 = bytes_of(&once, 0, n);
     let list_1 = bytes_of(&undo_1, 0, m);
     print_bytes(b"after one press    ", after_1);
@@ -92,19 +86,20 @@ fn press_twice(frame: &[u8], record: &[u8], last: &mut [u8]) -> usize {
     press_again(frame, after_1, list_1, last)
 }
 
-fn press_again(frame: &[u8], record: &[u8], list_1: &[u8], last: &mut [u8]) -> usize {
+fn press_again(
+    frame: &[u8],
+    record: &[u8],
+    list_1: &[u8],
+    last: &mut [u8],
+) -> Result<usize, StayedOut> {
     let mut twice = [0u8; 64];
     let mut undo_2 = [0u8; 64];
-    let second = arrive(frame, record, &mut twice, &mut undo_2);
-    let Press::In(n, m) = second else {
-        print_refusal(second);
-        return 0;
-    };
+    let (n, m) = arrive(frame, record, &mut twice, &mut undo_2)?;
     let after_2 = bytes_of(&twice, 0, n);
     let list_2 = bytes_of(&undo_2, 0, m);
     print_bytes(b"after the second   ", after_2);
     print_bytes(b"  its undo list    ", list_2);
-    take_back(after_2, list_2, list_1, last)
+    Ok(take_back(after_2, list_2, list_1, last))
 }
 
 fn take_back(record: &[u8], list_2: &[u8], list_1: &[u8], last: &mut [u8]) -> usize {
@@ -120,8 +115,10 @@ fn press_refused(frame: &[u8], record: &[u8]) {
     let mut after = [0u8; 64];
     let mut undo = [0u8; 64];
     print_bytes(b"the press          ", frame);
-    let press = arrive(frame, record, &mut after, &mut undo);
-    print_refusal(press);
+    match arrive(frame, record, &mut after, &mut undo) {
+        Ok(_) => print(b"it went in\n"),
+        Err(why) => print_refusal(why),
+    }
     print_bytes(b"the record         ", record);
 }
 
@@ -135,7 +132,10 @@ fn main() {
     print(b"One press of the wash-mode button, `^ 1` on field 2, arrives twice.\n\n");
     print_bytes(b"the press          ", frame);
     print_bytes(b"the record         ", record);
-    let n = press_twice(frame, record, &mut last);
+    let n = press_twice(frame, record, &mut last).unwrap_or_else(|why| {
+        print_refusal(why);
+        0
+    });
     let back = bytes_of(&last, 0, n);
     print_bytes(b"first taken back   ", back);
     if check::same(back, record) {

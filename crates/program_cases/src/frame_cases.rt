@@ -25,41 +25,35 @@ fn print_place(place: Place) {
 
 fn print_numbers(frame: Frame) {
     print_number(frame.code as usize);
-    let sync = frame.sync;
-    print_optional(sync);
-    let schema_version = frame.schema_version;
-    print_optional(schema_version);
-    let space = frame.space;
-    print_optional(space);
-    let index = frame.index;
-    print_optional(index);
-    let limit = frame.limit;
-    print_optional(limit);
-    let offset = frame.offset;
-    print_optional(offset);
-    let iterator = frame.iterator;
-    print_optional(iterator);
-    let index_base = frame.index_base;
-    print_optional(index_base);
+    let numbers = [
+        frame.sync,
+        frame.schema_version,
+        frame.space,
+        frame.index,
+        frame.limit,
+        frame.offset,
+        frame.iterator,
+        frame.index_base,
+    ];
+    for n in numbers {
+        print_optional(n);
+    }
 }
 
 fn print_places(frame: Frame) {
-    let key = frame.key;
-    print_place(key);
-    let tuple = frame.tuple;
-    print_place(tuple);
-    let function = frame.function;
-    print_place(function);
-    let user = frame.user;
-    print_place(user);
-    let expression = frame.expression;
-    print_place(expression);
-    let ops = frame.ops;
-    print_place(ops);
-    let data = frame.data;
-    print_place(data);
-    let error = frame.error;
-    print_place(error);
+    let places = [
+        frame.key,
+        frame.tuple,
+        frame.function,
+        frame.user,
+        frame.expression,
+        frame.ops,
+        frame.data,
+        frame.error,
+    ];
+    for place in places {
+        print_place(place);
+    }
 }
 
 pub(crate) fn print_record(frame: Frame) {
@@ -69,21 +63,16 @@ pub(crate) fn print_record(frame: Frame) {
 
 pub(crate) fn print_read(bytes: &[u8]) {
     let answer = frame_reading::read_frame(bytes);
-    let frame = answer.frame;
-    let place = answer.place;
     print(b"f");
     print_number(answer.number as usize);
     print_number(answer.length);
-    print_record(frame);
-    print_optional(place);
+    print_record(answer.frame);
+    print_optional(answer.place);
     print(b"\n");
 }
 
 fn number_in(record: &[u8], at: usize, width: usize) -> u64 {
-    match msgpack_numbers::number_at(record, at, width) {
-        Some(n) => n,
-        None => 0,
-    }
+    msgpack_numbers::number_at(record, at, width).unwrap_or(0)
 }
 
 // A byte that says whether the number is there, and its eight bytes.
@@ -131,7 +120,7 @@ fn frame_in(record: &[u8]) -> Frame {
 
 // The buffer holds 5a in every byte before it is lent.
 pub(crate) fn print_write(record: &[u8], bytes: &[u8], out: &mut [u8]) {
-    crate::text::fill(out, 0, 0x5a, out.len());
+    out.fill(0x5a);
     let written = frame_writing::write_frame(frame_in(record), bytes, out);
     print(b"w");
     print_number(written.number as usize);

@@ -8,25 +8,22 @@ mod text;
 mod update_cases;
 mod value_cases;
 
-use text::{find, part};
+use text::part;
 
 // The bytes of the `n`th field of a line, put into a buffer; as many as there is room for.
 fn bytes_in<'a>(line: &[u8], n: usize, buffer: &'a mut [u8]) -> &'a mut [u8] {
     let end = text::expand(part(line, b'\t', n), buffer);
-    &mut buffer[0..end]
+    &mut buffer[..end]
 }
 
 fn number_in(line: &[u8], n: usize) -> usize {
-    text::decimal_at(part(line, b'\t', n), 0)
+    text::decimal(part(line, b'\t', n))
 }
 
 // As many bytes of a buffer as the `n`th field of a line says.
 fn room_in<'a>(line: &[u8], n: usize, buffer: &'a mut [u8]) -> &'a mut [u8] {
-    let room = number_in(line, n);
-    if room <= buffer.len() {
-        return &mut buffer[0..room];
-    }
-    buffer
+    let room = number_in(line, n).min(buffer.len());
+    &mut buffer[..room]
 }
 
 // v: a value read alone.
@@ -128,12 +125,8 @@ fn print_line(line: &[u8]) {
 }
 
 fn print_lines(input: &[u8]) {
-    let mut at: usize = 0;
-    while at < input.len() {
-        let end = find(input, at, b'\n');
-        let line = &input[at..end];
+    for line in input.split(|b| *b == b'\n') {
         print_line(line);
-        at = end + 1;
     }
 }
 
@@ -141,5 +134,5 @@ fn main() {
     let mut input = [0u8; 655360];
     let n = io::read_full(0, &mut input);
     value_cases::print_first_bytes();
-    print_lines(&input[0..n]);
+    print_lines(&input[..n]);
 }

@@ -1,8 +1,6 @@
 // A session fed step by step.
-ghost use Rattle.std.specs.Prelude.{◌≡◌, ◌<◌, min, length};
-
 use crate::frame_cases::{print_optional, print_record};
-use crate::text::{decimal_at, find, part, print, print_buffer, print_number, print_sum};
+use crate::text::{decimal, part, print, print_buffer, print_number, print_sum};
 use msgpack_values::OptionalNumber;
 use sessions::{Session, SessionAnswer};
 
@@ -13,26 +11,20 @@ struct Run {
     taken: usize,
 }
 
-fn least(a: usize, b: usize) -> usize
-    ensures { result ≡ min a b }
-{
-    if a < b { a } else { b }
-}
-
 // A number, absent where there is no word for it.
 fn optional_in(word: &[u8]) -> OptionalNumber {
     OptionalNumber {
-        present: 0 < word.len(),
-        value: decimal_at(word, 0) as u64,
+        present: !word.is_empty(),
+        value: decimal(word) as u64,
     }
 }
 
 // Offset, held and refused; and the place, where it has one.
 pub(crate) fn session_in(words: &[u8]) -> Session {
     Session {
-        offset: decimal_at(part(words, b' ', 0), 0) as u64,
-        held: decimal_at(part(words, b' ', 1), 0),
-        refused: (decimal_at(part(words, b' ', 2), 0) % 4_294_967_296) as u32,
+        offset: decimal(part(words, b' ', 0)) as u64,
+        held: decimal(part(words, b' ', 1)),
+        refused: (decimal(part(words, b' ', 2)) % 4_294_967_296) as u32,
         place: optional_in(part(words, b' ', 3)),
     }
 }
@@ -42,8 +34,7 @@ fn print_after(session: Session, carry: &[u8]) {
     print_number(session.offset as usize);
     print_number(session.held);
     print_number(session.refused as usize);
-    let place = session.place;
-    print_optional(place);
+    print_optional(session.place);
     print_sum(carry);
     print(b"\n");
 }
@@ -71,29 +62,20 @@ fn print_answer(answer: SessionAnswer) {
     print_number(answer.taken);
     print_number(answer.offset as usize);
     print_number(answer.length);
-    let frame = answer.frame;
-    print_record(frame);
-    let place = answer.place;
-    print_optional(place);
+    print_record(answer.frame);
+    print_optional(answer.place);
 }
 
 // The next `n` bytes after those that were taken, or all that are left.
 fn piece_of(bytes: &[u8], taken: usize, n: usize) -> &[u8] {
-    let from = least(taken, bytes.len());
-    let to = from + least(n, bytes.len() - from);
-    &bytes[from..to]
+    let left = &bytes[taken.min(bytes.len())..];
+    &left[..n.min(left.len())]
 }
 
 // A feed; with a carry buffer that lacks its last byte where `short` is true.
 fn feed(session: Session, piece: &[u8], short: bool, carry: &mut [u8]) -> SessionAnswer {
-    if !short {
-        return session_feeding::feed(session, piece, carry);
-    }
-    if carry.len() == 0 {
-        return session_feeding::feed(session, piece, carry);
-    }
-    let lent = carry.len() - 1;
-    session_feeding::feed(session, piece, &mut carry[0..lent])
+    let lent = carry.len().saturating_sub(usize::from(short));
+    session_feeding::feed(session, piece, &mut carry[..lent])
 }
 
 // What was answered, and the frame that is shown.
@@ -102,46 +84,38 @@ fn fed(run: Run, piece: &[u8], short: bool, carry: &mut [u8]) -> Run {
     print_answer(answer);
     let frame = session_feeding::view(answer.in_carry, answer.length, piece, carry);
     print_buffer(frame, frame.len());
-    let session = answer.session;
     Run {
-        session,
-        taken: std::num::wrapping_add_usize(run.taken, answer.taken),
+        session: answer.session,
+        taken: run.taken.wrapping_add(answer.taken),
     }
 }
 
 // `o` opens, `r` resets, N feeds N bytes, `sN` feeds them with a carry buffer that is one byte short.
-fn step(run: Run, word: &[u8], bytes: &[u8], carry: &mut [u8]) -> Run
-    requires { 0 < length word.now }
-{
+fn step(run: Run, word: &[u8], bytes: &[u8], carry: &mut [u8]) -> Run {
     let taken = run.taken;
-    let first = word[0];
-    match first {
-        b'o' => {
-            let session = opened(carry);
-            Run { session, taken }
-        }
-        b'r' => {
-            let session = reset();
-            Run { session, taken }
-        }
-        b's' => {
-            let piece = piece_of(bytes, taken, decimal_at(word, 1));
-            fed(run, piece, true, carry)
-        }
-        _ => {
-            let piece = piece_of(bytes, taken, decimal_at(word, 0));
-            fed(run, piece, false, carry)
-        }
+    match word.first() {
+        Some(b'o') => Run {
+            session: opened(carry),
+            taken,
+        },
+        Some(b'r') => Run {
+            session: reset(),
+            taken,
+        },
+        Some(b's') => fed(
+            run,
+            piece_of(bytes, taken, decimal(&word[1..])),
+            true,
+            carry,
+        ),
+        _ => fed(run, piece_of(bytes, taken, decimal(word)), false, carry),
     }
 }
 
 pub(crate) fn print_steps(session: Session, steps: &[u8], bytes: &[u8], carry: &mut [u8]) {
     let mut run = Run { session, taken: 0 };
-    let mut at: usize = 0;
-    while at < steps.len() {
-        let end = find(steps, at, b' ');
-        run = step(run, &steps[at..], bytes, carry);
+    for word in steps.split_inclusive(|b| *b == b' ') {
+        run = step(run, word, bytes, carry);
         print_after(run.session, carry);
-        at = end + 1;
     }
 }

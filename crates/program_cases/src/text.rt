@@ -1,5 +1,5 @@
 // Lines of text: fields of hexadecimal digits taken apart, numbers and bytes printed.
-ghost use Rattle.std.specs.Prelude.{◌<◌, ◌≤◌, length};
+ghost use Rattle.std.specs.Prelude.{◌<◌, ◌≤◌, length, IfSome};
 
 // The file descriptor of standard output.
 pub(crate) const STDOUT: i32 = 1;
@@ -11,7 +11,7 @@ pub(crate) fn print(text: &[u8]) {
 // The text in the first n bytes of a buffer.
 pub(crate) fn print_text(text: &[u8], n: usize) {
     if n <= text.len() {
-        print(&text[0..n]);
+        print(&text[..n]);
     }
 }
 
@@ -25,35 +25,9 @@ pub(crate) fn print_plain(n: usize) {
     io::print_decimal(STDOUT, n as u64);
 }
 
-// The place of the first `b` from `at` on, or the end.
-pub(crate) fn find(s: &[u8], at: usize, b: u8) -> usize
-    requires { at ≤ length s.now }
-    ensures { (at ≤ result) × (result ≤ length s.now) }
-{
-    let mut i = at;
-    while i < s.len() {
-        if s[i] == b {
-            return i;
-        }
-        i += 1;
-    }
-    i
-}
-
-// The part of the text between the `n`th `b` and the next one.
+// The part of the text between the `n`th `b` and the next one; nothing, where there are fewer.
 pub(crate) fn part(text: &[u8], b: u8, n: usize) -> &[u8] {
-    let mut at: usize = 0;
-    let mut left = n;
-    while 0 < left {
-        let end = find(text, at, b);
-        if end == text.len() {
-            return &text[end..];
-        }
-        at = end + 1;
-        left -= 1;
-    }
-    let end = find(text, at, b);
-    &text[at..end]
+    text.split(|c| *c == b).nth(n).unwrap_or(&[])
 }
 
 fn digit(b: u8) -> u8
@@ -66,113 +40,73 @@ fn digit(b: u8) -> u8
     }
 }
 
-// A byte of a field, how often it stands there, and where the field goes on.
-#[derive(Clone, Copy)]
-struct Piece {
-    byte: u8,
-    times: usize,
-    next: usize,
-}
-
-// The decimal number at `at`, up to the first byte that is no digit of it, or that would make it too
-// large.
-pub(crate) fn decimal_at(text: &[u8], at: usize) -> usize {
+// The decimal number at the front of a text, up to the first byte that is no digit of it, or that would make it
+// too large.
+pub(crate) fn decimal(text: &[u8]) -> usize {
     let mut n: usize = 0;
-    let mut i = at;
-    while i < text.len() {
-        let b = text[i];
-        if b < b'0' {
+    for b in text {
+        if !b.is_ascii_digit() {
             return n;
         }
-        if b'9' < b {
+        let digit = usize::from(*b - b'0');
+        let Some(more) = n.checked_mul(10).and_then(|tens| tens.checked_add(digit)) else {
             return n;
-        }
-        let digit = (b - b'0') as usize;
-        if (0xffff_ffff_ffff_ffff - digit) / 10 < n {
-            return n;
-        }
-        // Ten times n.
-        n = (n << 3) + (n << 1) + digit;
-        i += 1;
+        };
+        n = more;
     }
     n
 }
 
-// Two digits at `at`, and where `*N;` follows them, N times.
-fn piece_at(text: &[u8], at: usize) -> Piece
-    requires { at < length text.now }
-    ensures { (at < result.next) × (result.next ≤ length text.now) }
+// A byte of a field, how often it stands there, and the rest of the field.
+#[derive(Clone, Copy)]
+struct Piece<'a> {
+    byte: u8,
+    times: usize,
+    rest: &'a [u8],
+}
+
+// Two digits at the front, and where `*N;` follows them, N times.
+fn first_piece(text: &[u8]) -> Option<Piece<'_>>
+    ensures { IfSome result (λ piece. length piece.rest.now < length text.now) }
 {
-    let end = text.len();
-    if end - at < 2 {
-        return Piece {
-            byte: 0,
-            times: 0,
-            next: end,
-        };
-    }
-    let byte = (digit(text[at]) << 4) + digit(text[at + 1]);
-    let after = at + 2;
-    if after == end {
-        return Piece {
+    let (high, rest) = text.split_first()?;
+    let (low, rest) = rest.split_first()?;
+    let byte = (digit(*high) << 4) + digit(*low);
+    let Some((b'*', count)) = rest.split_first() else {
+        return Some(Piece {
             byte,
             times: 1,
-            next: end,
-        };
-    }
-    if text[after] != b'*' {
-        return Piece {
-            byte,
-            times: 1,
-            next: after,
-        };
-    }
-    let times = decimal_at(text, after + 1);
-    let stop = find(text, after, b';');
-    if stop == end {
-        return Piece {
-            byte,
-            times,
-            next: end,
-        };
-    }
-    Piece {
+            rest,
+        });
+    };
+    let end = count.iter().position(|b| *b == b';');
+    let rest = end.map_or(&[][..], |i| &count[i + 1..]);
+    Some(Piece {
         byte,
-        times,
-        next: stop + 1,
-    }
+        times: decimal(count),
+        rest,
+    })
 }
 
 // `times` times `b` from `at` on, as far as there is room; the place after them.
-pub(crate) fn fill(out: &mut [u8], at: usize, b: u8, times: usize) -> usize
+fn fill(out: &mut [u8], at: usize, b: u8, times: usize) -> usize
     requires { at ≤ length out.old }
     ensures { result ≤ length out.new }
 {
-    let mut i = at;
-    let mut left = times;
-    while i < out.len() {
-        if left == 0 {
-            return i;
-        }
-        out[i] = b;
-        i += 1;
-        left -= 1;
-    }
-    i
+    let end = at + times.min(out.len() - at);
+    out[at..end].fill(b);
+    end
 }
 
 // The bytes that a field stands for, as many as there is room for.
 pub(crate) fn expand(text: &[u8], out: &mut [u8]) -> usize
     ensures { result ≤ length out.new }
 {
-    let mut n: usize = 0;
-    let mut i: usize = 0;
-    while i < text.len() {
-        let piece = piece_at(text, i);
-        let byte = piece.byte;
-        let times = piece.times;
-        n = fill(out, n, byte, times);
-        i = piece.next;
+    let mut n = 0;
+    let mut rest = text;
+    while let Some(piece) = first_piece(rest) {
+        n = fill(out, n, piece.byte, piece.times);
+        rest = piece.rest;
     }
     n
 }
@@ -181,27 +115,17 @@ pub(crate) fn expand(text: &[u8], out: &mut [u8]) -> usize
 fn adler(s: &[u8]) -> u64 {
     let mut low: u64 = 1;
     let mut high: u64 = 0;
-    let mut i: usize = 0;
-    while i < s.len() {
-        low = (low + s[i] as u64) % 65_521;
+    for b in s {
+        low = (low + u64::from(*b)) % 65_521;
         high = (high + low) % 65_521;
-        i += 1;
     }
     (high << 16) + low
 }
 
 // The first `n` bytes, at most 48.
 fn print_front(s: &[u8], n: usize) {
-    let mut i: usize = 0;
-    while i < s.len() {
-        if n <= i {
-            return;
-        }
-        if 48 <= i {
-            return;
-        }
-        io::print_hex(STDOUT, s[i] as u64, 2);
-        i += 1;
+    for b in s.iter().take(n.min(48)) {
+        io::print_hex(STDOUT, u64::from(*b), 2);
     }
 }
 

@@ -7,8 +7,7 @@ fn print_answer(answer: Answer, out: &[u8]) {
     print_number(answer.number as usize);
     print_number(answer.operation as usize);
     print_number(answer.length);
-    let place = answer.place;
-    print_optional(place);
+    print_optional(answer.place);
     print_buffer(out, answer.length);
 }
 
@@ -20,8 +19,8 @@ fn pressed(
     out: &mut [u8],
     undo: &mut [u8],
 ) -> PressAnswer {
-    crate::text::fill(out, 0, 0x5a, out.len());
-    crate::text::fill(undo, 0, 0x5a, undo.len());
+    out.fill(0x5a);
+    undo.fill(0x5a);
     updates::press(tuple, list, index_base, out, undo)
 }
 
@@ -31,8 +30,7 @@ fn print_pressed(answer: PressAnswer, out: &[u8], undo: &[u8]) {
     print_number(answer.operation as usize);
     print_number(answer.length);
     print_number(answer.undo_length);
-    let place = answer.place;
-    print_optional(place);
+    print_optional(answer.place);
     print_sum(out);
     print_sum(undo);
     print(b"\n");
@@ -51,10 +49,10 @@ pub(crate) fn print_press(
 
 // The buffer holds 5a in every byte before it is lent.
 pub(crate) fn print_update(tuple: &[u8], list: &[u8], index_base: u64, out: &mut [u8]) {
-    crate::text::fill(out, 0, 0x5a, out.len());
+    out.fill(0x5a);
     let updated = updates::update(tuple, list, index_base, out);
     print_answer(updated, out);
-    crate::text::fill(out, 0, 0x5a, out.len());
+    out.fill(0x5a);
     let undone = updates::undo(tuple, list, index_base, out);
     print_answer(undone, out);
 }

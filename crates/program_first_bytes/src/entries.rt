@@ -3,7 +3,7 @@ use crate::text::{print, print_hex};
 
 fn print_label(high: u8) {
     print(b"| ");
-    print_hex(high as u16, 1);
+    print_hex(u16::from(high), 1);
     print(b". |");
 }
 
@@ -16,7 +16,7 @@ fn print_entry(b: u8) {
 
 fn print_row(high: u8) {
     print_label(high);
-    for low in 0u8..16u8 {
+    for low in 0..16u8 {
         print_entry((high << 4) + low);
     }
     print(b"\n");
@@ -31,7 +31,7 @@ fn print_head() {
 
 pub(crate) fn print_grid() {
     print_head();
-    for high in 0u8..16u8 {
+    for high in 0..16u8 {
         print_row(high);
     }
 }

@@ -1,4 +1,5 @@
 -- What is answered. Assumes nothing.
+use Rattle.std.specs.Prelude.{Ok, Err, Result}
 use mathlib.Core.Path.{◌≡◌, refl, sym, ap, ◌∙◌}
 use mathlib.Core.Bool.{Bool, true, false, ◌&&◌}
 use mathlib.Core.List.{List, [], ◌∷◌, ◌++◌}
@@ -9,6 +10,7 @@ use lib.Dec.{leb}
 use lib.ListN.{length, take, drop, length-append}
 use lib.Seq.{length-take-le}
 use Rattle.msgpack_first_bytes.specs.Bytes.{Bytes, pick}
+use Rattle.msgpack_first_bytes.proofs.Logic.{impossible}
 use Rattle.msgpack_values.specs.Pieces.{joined}
 use Rattle.msgpack_writing.specs.Forms.{array_header}
 use Rattle.msgpack_writing.specs.Put.{put, next}
@@ -18,6 +20,7 @@ use Rattle.tuples.specs.Limits.{max_operations, max_list}
 use Rattle.tuples.specs.Tuple.{plain}
 use Rattle.tuples.specs.Call.{Outcome, refusal, bytes, refusing, writing, delivered}
 use Rattle.tuples.specs.Press.{pressing, declining, writing_both, pressed}
+use Rattle.tuples.specs.declared.Refusal.{Refusal}
 use Rattle.tuples.specs.declared.Refusal.TheVariants.{LongUndo, ShortBuffer}
 use Rattle.tuples.proofs.Cases.{both_hold}
 use Rattle.tuples.proofs.Legal.{plain-length}
@@ -28,21 +31,21 @@ use Rattle.update_delivering.specs.Gathering.{in_limits, undo_shown, undo_outcom
 
 -- ---- 17
 
-abbrev limited_length : ℕ → ℕ → ℕ
-limited_length n b = pick (in_limits n b) (length (array_header n) + b) 0
+abbrev limited_length : ℕ → ℕ → Result ℕ Refusal
+limited_length n b = pick (in_limits n b) (Ok (length (array_header n) + b)) (Err LongUndo)
 
 module _ (n b : ℕ) where
-  pub many : max_operations < n → 0 ≡ limited_length n b
+  pub many : max_operations < n → Err LongUndo ≡ limited_length n b
   many h = simp (lt-leb _ _ h)
 
-  pub long : max_list < length (array_header n) + b → 0 ≡ limited_length n b
+  pub long : max_list < length (array_header n) + b → Err LongUndo ≡ limited_length n b
   long h = go (leb n max_operations) (lt-leb _ _ h)
     where
-      go : (x : Bool) {y : Bool} → y ≡ false → 0 ≡ pick (x && y) (length (array_header n) + b) 0
+      go : (x : Bool) {y : Bool} → y ≡ false → Err LongUndo ≡ pick (x && y) (Ok (length (array_header n) + b)) (Err LongUndo)
       go true e = rw e
       go false e = refl
 
-  pub within : n ≤ max_operations → length (array_header n) + b ≤ max_list → limited_length n b ≡ length (array_header n) + b
+  pub within : n ≤ max_operations → length (array_header n) + b ≤ max_list → limited_length n b ≡ Ok (length (array_header n) + b)
   within h k = simp (le-leb _ _ h, le-leb _ _ k)
 
 -- ---- a header, then the values
@@ -91,20 +94,20 @@ module _ {t l w : Bytes} {back : List ℕ} {z : Stage} (U : Undoes t l w back z)
     pub long : r ≡ length (plain (undo_shown t l w back z))
     pub is : undo_outcome t l w back z ≡ bytes (plain (undo_shown t l w back z))
 
-  module _ (r : ℕ) (e : r ≡ limited_length z.laid z.back) where
-    pub undo-refused : r ≡ 0 → undo_outcome t l w back z ≡ refusal LongUndo 0
+  module _ (r : Result ℕ Refusal) (e : r ≡ limited_length z.laid z.back) where
+    pub undo-refused : {k : Refusal} → r ≡ Err k → (k ≡ LongUndo) × (undo_outcome t l w back z ≡ refusal k 0)
     unfolding undo_outcome
-    undo-refused f = go (in_limits z.laid z.back) (sym e ∙ f)
+    undo-refused {k} f = go (in_limits z.laid z.back) (sym e ∙ f)
       where
-        go : (x : Bool) → pick x (length (array_header z.laid) + z.back) 0 ≡ 0
-            → pick x (bytes (plain (undo_shown t l w back z))) (refusal LongUndo 0) ≡ refusal LongUndo 0
-        go true p = absurd (omega (arith, p, array_long z.laid))
-        go false p = refl
+        go : (x : Bool) → pick x (Ok (length (array_header z.laid) + z.back)) (Err LongUndo) ≡ Err k
+            → (k ≡ LongUndo) × (pick x (bytes (plain (undo_shown t l w back z))) (refusal LongUndo 0) ≡ refusal k 0)
+        go true p = impossible (cc)
+        go false p = let q : k ≡ LongUndo = cc in (q, rw q refl)
 
-    pub undo-limited : (r ≡ 0 → ⊥) → Limited r
-    undo-limited f = go (in_limits z.laid z.back) refl e
+    pub undo-limited : {n : ℕ} → r ≡ Ok n → Limited n
+    undo-limited {n} f = go (in_limits z.laid z.back) refl (sym e ∙ f)
       where
-        go : (x : Bool) → in_limits z.laid z.back ≡ x → r ≡ pick x (length (array_header z.laid) + z.back) 0 → Limited r
+        go : (x : Bool) → in_limits z.laid z.back ≡ x → pick x (Ok (length (array_header z.laid) + z.back)) (Err LongUndo) ≡ Ok n → Limited n
         go true p q =
             let (m, o) = both_hold _ _ p in
             let h : z.laid ≤ max_operations = leb-true _ _ m in
@@ -112,12 +115,13 @@ module _ {t l w : Bytes} {back : List ℕ} {z : Stage} (U : Undoes t l w back z)
             let g = plain-length (undo_shown t l w back z) in
             let k = U.bytes h in
             let a = ap (λ (n : ℕ). length (array_header n)) c in
-            record { few = h; counted = c; long = omega (arith, q, a, k, g); is = unfold undo_outcome in rw p }
-        go false p q = absurd (f q)
+            let i : length (array_header z.laid) + z.back ≡ n = cc in
+            record { few = h; counted = c; long = omega (arith, i, a, k, g); is = unfold undo_outcome in rw p }
+        go false p q = impossible (cc)
 
-pub long-delivered : (out : Bytes) {o : Outcome} → o ≡ refusal LongUndo 0 → refusing LongUndo 0 out ≡ delivered o out
+pub long-delivered : (k : Refusal) (out : Bytes) {o : Outcome} → o ≡ refusal k 0 → refusing k 0 out ≡ delivered o out
 unfolding delivered
-long-delivered out e = rw e
+long-delivered k out e = rw e
 
 -- ---- the list written
 
@@ -140,9 +144,9 @@ module _ (t l w out : Bytes) {back : List ℕ} {laid : ℕ} (E : Entries back la
 pub press-is : (b out un : Bytes) {o q : Outcome} → o ≡ q → pressed (pressing (bytes b) q) out un ≡ pressed (pressing (bytes b) o) out un
 press-is b out un e = ap (λ (x : Outcome). pressed (pressing (bytes b) x) out un) (sym e)
 
-pub long-declined : (b out un : Bytes) {o : Outcome} → o ≡ refusal LongUndo 0 → declining LongUndo 0 out un ≡ pressed (pressing (bytes b) o) out un
+pub long-declined : (k : Refusal) (b out un : Bytes) {o : Outcome} → o ≡ refusal k 0 → declining k 0 out un ≡ pressed (pressing (bytes b) o) out un
 unfolding pressed pressing
-long-declined b out un e = rw e
+long-declined k b out un e = rw e
 
 module _ (b d out un : Bytes) where
   pub out-short : length out < length b → declining ShortBuffer 0 out un ≡ pressed (pressing (bytes b) (bytes d)) out un

@@ -1,91 +1,22 @@
--- Places that lie side by side are one place. Assumes nothing.
+-- Entries gathered in sides, each of places that lie one behind the other. Assumes nothing.
+use Rattle.std.specs.List.{AllAdjacentBelow}
 use mathlib.Core.Path.{◌≡◌, refl, sym, ap, ◌∙◌, subst}
-use mathlib.Core.Bool.{Bool, true, false}
-use mathlib.Core.List.{List, [], ◌∷◌, ◌++◌, map, map-append}
-use Prim.Native.Nat.{ℕ, suc, ◌+◌, ◌-◌, ◌<◌, ◌≤◌}
+use mathlib.Core.Bool.{true}
+use mathlib.Core.List.{List, [], ◌∷◌, ◌++◌, map, map-append, append_assoc, append-nil}
+use Prim.Native.Nat.{ℕ, suc, ◌+◌, ◌≤◌}
 use native.Mathlib.Omega.{arith}
-use native.Mathlib.Numerals.{add-one}
-use borrow.Author.Tests.{eqb-true, eq-eqb, ne_eqb}
+use borrow.Author.Tests.{eqb-true}
 use lib.Dec.{eqb}
-use lib.ListN.{length, take, drop, get_or, length-drop, length-append, take-append-drop, drop_of_length-le}
-use lib.Seq.{take-add, take-length, drop-cons}
-use Rattle.msgpack_first_bytes.specs.Bytes.{Bytes, pick}
+use lib.ListN.{length, take, drop, get_or, length-append, take-append-drop}
+use lib.Seq.{take-add, drop-append_seam, take-append_seam}
+use Rattle.msgpack_first_bytes.specs.Bytes.{Bytes}
 use Rattle.msgpack_values.specs.Pieces.{joined}
 use Rattle.msgpack_writing.specs.Put.{put, next}
 use Rattle.msgpack_writing.proofs.Put.{Wrote, wrote, join as join-writes, nothing as write-nothing}
-use Rattle.update_places.specs.Place.{start_of, length_of, bytes_from, bytes_at, fields_in, Sources}
-use Rattle.update_places.proofs.Places.{map-drop}
-use Rattle.update_places.proofs.Runs.{from_nothing, beside}
+use Rattle.update_places.specs.Place.{start_of, length_of, bytes_at, fields_in, Chain}
+use Rattle.update_places.proofs.Places.{map-take, map-drop}
 use Rattle.update_running.proofs.Holding.{joined-append}
-use Rattle.update_delivering.specs.Gathering.{besides, reach, Gathers}
-
-pub reach-le : (a : ℕ) (es : List ℕ) → a ≤ reach a es
-unfolding reach
-reach-le a [] = omega arith
-reach-le a (e ∷ es) = go (eqb (start_of e) a) (reach-le (a + length_of e) es)
-  where
-    go : (x : Bool) → a + length_of e ≤ reach (a + length_of e) es → a ≤ pick x (reach (a + length_of e) es) a
-    go true h = omega (arith, h)
-    go false h = omega arith
-
-besides-le : (a : ℕ) (es : List ℕ) → besides a es ≤ length es
-unfolding besides
-besides-le a [] = omega arith
-besides-le a (e ∷ es) = go (eqb (start_of e) a) (besides-le (a + length_of e) es)
-  where
-    go : (x : Bool) → besides (a + length_of e) es ≤ length es → pick x (suc (besides (a + length_of e) es)) 0 ≤ length (e ∷ es)
-    go true h = omega (arith, h)
-    go false h = omega arith
-
--- A RUN: entries that lie side by side from a on are one piece, where each lies whole in its source
-run-joined : (t l w : Bytes) → Sources t l → (a : ℕ) (es : List ℕ) → map length (fields_in t l w es) ≡ map length_of es
-    → joined (fields_in t l w (take (besides a es) es)) ≡ bytes_from t l w a (reach a es - a)
-unfolding besides reach fields_in joined bytes_at
-run-joined t l w S a [] m = let z : a - a ≡ 0 = omega arith in rw z (sym (from_nothing t l w a))
-run-joined t l w S a (e ∷ es) m = go (eqb (start_of e) a) refl (run-joined t l w S (a + length_of e) es (ap (drop 1) m))
-  where
-    go : (x : Bool) → eqb (start_of e) a ≡ x
-        → joined (map (bytes_at t l w) (take (besides (a + length_of e) es) es)) ≡ bytes_from t l w (a + length_of e) (reach (a + length_of e) es - (a + length_of e))
-        → joined (map (bytes_at t l w) (take (pick x (suc (besides (a + length_of e) es)) 0) (e ∷ es))) ≡ bytes_from t l w a (pick x (reach (a + length_of e) es) a - a)
-    go true p i =
-        let r = reach (a + length_of e) es in
-        let b : a + length_of e ≤ r = reach-le (a + length_of e) es in
-        let q : start_of e ≡ a = eqb-true _ _ p in
-        let f : length (bytes_from t l w a (length_of e)) ≡ length_of e = ap (λ (x : ℕ). length (bytes_from t l w x (length_of e))) (sym q) ∙ ap (λ (x : List ℕ). get_or x 0 0) m in
-        let d : length_of e + (r - (a + length_of e)) ≡ r - a = omega arith in
-        ap (λ (x : ℕ). bytes_from t l w x (length_of e) ++ joined (map (bytes_at t l w) (take (besides (a + length_of e) es) es))) q
-        ∙ ap (λ (x : Bytes). bytes_from t l w a (length_of e) ++ x) i ∙ beside t l w S a (length_of e) (r - (a + length_of e)) f ∙ ap (bytes_from t l w a) d
-    go false p i = let z : a - a ≡ 0 = omega arith in rw z (sym (from_nothing t l w a))
-
--- ---- the loop that finds a run
-
-module _ (d : List ℕ) (i a : ℕ) where
-  module _ (h : i < length d) where
-    pub reach-on : start_of (get_or d i 0) ≡ a → reach (a + length_of (get_or d i 0)) (drop (i + 1) d) ≡ reach a (drop i d)
-    unfolding reach
-    reach-on e = rw (add-one, drop-cons d i 0 h) (simp (eq-eqb _ _ e))
-
-    pub besides-on : start_of (get_or d i 0) ≡ a → i + 1 + besides (a + length_of (get_or d i 0)) (drop (i + 1) d) ≡ i + besides a (drop i d)
-    unfolding besides
-    besides-on e = rw (add-one, drop-cons d i 0 h) (simp (eq-eqb _ _ e) (omega arith))
-
-    pub reach_off : (start_of (get_or d i 0) ≡ a → ⊥) → reach a (drop i d) ≡ a
-    unfolding reach
-    reach_off e = rw (drop-cons d i 0 h) (simp (ne_eqb _ _ e))
-
-    pub besides_off : (start_of (get_or d i 0) ≡ a → ⊥) → besides a (drop i d) ≡ 0
-    unfolding besides
-    besides_off e = rw (drop-cons d i 0 h) (simp (ne_eqb _ _ e))
-
-  pub reach_end : length d ≤ i → reach a (drop i d) ≡ a
-  unfolding reach
-  reach_end h = rw (drop_of_length-le d {i = i} h)
-
-  pub besides_end : length d ≤ i → besides a (drop i d) ≡ 0
-  unfolding besides
-  besides_end h = rw (drop_of_length-le d {i = i} h)
-
--- ---- the loop that gathers
+use Rattle.update_delivering.specs.Gathering.{Gathers, Side}
 
 -- the fields of the first i entries, back to back
 abbrev pub Front : Bytes → Bytes → Bytes → List ℕ → ℕ → Bytes
@@ -104,31 +35,71 @@ pub whole_drop : (t l w : Bytes) (es : List ℕ) (i : ℕ) → map length (field
 unfolding fields_in
 whole_drop t l w es i m = rw (map-drop, map-drop, map-drop) (ap (drop i) m)
 
+pub whole_take : (t l w : Bytes) (es : List ℕ) (i : ℕ) → map length (fields_in t l w es) ≡ map length_of es
+    → map length (fields_in t l w (take i es)) ≡ map length_of (take i es)
+unfolding fields_in
+whole_take t l w es i m = rw (map-take, map-take, map-take) (ap (take i) m)
+
+fields-append : (t l w : Bytes) (es fs : List ℕ) → joined (fields_in t l w (es ++ fs)) ≡ joined (fields_in t l w es) ++ joined (fields_in t l w fs)
+unfolding fields_in
+fields-append t l w es fs = rw (map-append, joined-append)
+
+-- ---- the loop that gathers
+
+-- the first places of some, each of which ends where the next one begins; and the rest
+pub record Beside (es side left : List ℕ) : Type 0 where
+  pub is : es ≡ side ++ left
+  pub adjacent : AllAdjacentBelow (λ p q. eqb (start_of p + length_of p) (start_of q) ≡ true) es (length side)
+
+chained : (side left : List ℕ) → AllAdjacentBelow (λ p q. eqb (start_of p + length_of p) (start_of q) ≡ true) (side ++ left) (length side)
+    → (a : ℕ) → start_of (get_or side 0 0) ≡ a → Chain a side
+unfolding Chain
+chained [] left h a e = tt
+chained (p ∷ []) left h a e = (e, tt)
+chained (p ∷ (q ∷ side)) left h a e =
+    (e, chained (q ∷ side) left (λ k d m. let n : suc k + 1 ≡ suc (k + 1) = omega arith in rw n at (h (suc k) d (omega arith))) (a + length_of p) (sym (rw e at (eqb-true _ _ (h 0 0 (omega arith))))))
+
+-- the entries before those that are left are gathered
+pub record Gathered (t l w : Bytes) (es : List ℕ) (out : Bytes) (at : ℕ) (left : List ℕ) (cur : Bytes) (to : ℕ) : Type 0 where
+  pub before : List ℕ
+  pub is : es ≡ before ++ left
+  pub wrote : Wrote out at (joined (fields_in t l w before)) cur to
+
 module _ {t l w : Bytes} {es : List ℕ} {out : Bytes} {at : ℕ} (G : Gathers t l w es out at) where
-  pub begun : Wrote out at (Front t l w es 0) out at
+  pub begun : Gathered t l w es out at es out at
   unfolding fields_in joined
-  begun = wrote out at [] (write-nothing out at [] refl) (omega (arith, G.room))
+  begun = record { before = []; is = refl; wrote = wrote out at [] (write-nothing out at [] refl) (omega (arith, G.room)) }
 
-  pub ended : (i : ℕ) {cur : Bytes} {to : ℕ} → i ≡ length es → Wrote out at (Front t l w es i) cur to → Wrote out at (joined (fields_in t l w es)) cur to
-  ended i {cur} {to} e v = subst (λ (x : Bytes). Wrote out at x cur to) (ap (Front t l w es) e ∙ rw take-length) v
+  pub ended : {left : List ℕ} {cur : Bytes} {to : ℕ} → Gathered t l w es out at left cur to → length left ≡ 0 → Wrote out at (joined (fields_in t l w es)) cur to
+  ended {left = []} {cur} {to} g e = subst (λ (x : List ℕ). Wrote out at (joined (fields_in t l w x)) cur to) (sym (g.is ∙ append-nil g.before)) g.wrote
+  ended {left = x ∷ left} g e = absurd (omega arith)
 
-  module _ (i : ℕ) (h : i < length es) (a e k : ℕ) (s : a ≡ start_of (get_or es i 0)) (p : e ≡ reach a (drop i es)) (q : k ≡ i + besides a (drop i es)) where
-    pub further : (i < k) × (k ≤ length es)
-    further =
-        let f = besides-on es i a h (sym s) in
-        let g = besides-le a (drop i es) in
-        let l = length-drop i es in
-        (omega arith, omega arith)
+  module _ {left : List ℕ} {cur : Bytes} {to : ℕ} (g : Gathered t l w es out at left cur to) {side more : List ℕ} (b : Beside left side more) where
+    sizes : length (joined (fields_in t l w es)) ≡ length (joined (fields_in t l w g.before)) + (length (joined (fields_in t l w side)) + length (joined (fields_in t l w more)))
+    sizes =
+        let F = λ (x : List ℕ). joined (fields_in t l w x) in
+        ap (λ (x : List ℕ). length (F x)) (g.is ∙ ap (λ (x : List ℕ). g.before ++ x) b.is) ∙ ap length (fields-append t l w g.before (side ++ more)) ∙ length-append (F g.before) (F (side ++ more))
+        ∙ ap (λ (n : ℕ). length (F g.before) + n) (ap length (fields-append t l w side more) ∙ length-append (F side) (F more))
 
-    pub gathered : {cur new : Bytes} {to b : ℕ} → Wrote out at (Front t l w es i) cur to
-        → (b ≡ next to (bytes_from t l w a (e - a)) cur) × (new ≡ put to (bytes_from t l w a (e - a)) cur) → Wrote out at (Front t l w es k) new b
-    gathered {cur} {new} {to} {b} v c =
-        let D = drop i es in
-        let piece = bytes_from t l w a (e - a) in
-        let r = run-joined t l w G.sources a D (whole_drop t l w es i G.whole) in
-        let f : Front t l w es k ≡ Front t l w es i ++ piece
-        = ap (Front t l w es) q ∙ front_split t l w es i (besides a D) ∙ ap (λ (x : Bytes). Front t l w es i ++ x) (r ∙ ap (λ (x : ℕ). bytes_from t l w a (x - a)) (sym p)) in
-        let g = ap length (fields_split t l w es k) ∙ length-append (Front t l w es k) (joined (fields_in t l w (drop k es))) in
-        let n : length (Front t l w es k) ≡ length (Front t l w es i) + length piece = ap length f ∙ length-append (Front t l w es i) piece in
-        let h : to + length piece ≤ length cur = omega (arith, v.end, v.long, g, n, G.room) in
-        subst (λ (x : Bytes). Wrote out at x new b) (sym f) (join-writes v (wrote cur to piece c h))
+    pub side_gathers : Gathers t l w side cur to × Side side
+    side_gathers = (
+      record {
+        sources = G.sources;
+        few = let e = ap length g.is ∙ length-append g.before left in let f = ap length b.is ∙ length-append side more in omega (arith, G.few);
+        whole =
+            let W = λ (x : List ℕ). map length (fields_in t l w x) ≡ map length_of x in
+            let m : W left = subst W (ap (drop (length g.before)) g.is ∙ drop-append_seam g.before left) (whole_drop t l w es (length g.before) G.whole) in
+            subst W (ap (take (length side)) b.is ∙ take-append_seam side more) (whole_take t l w left (length side) m);
+        room = omega (arith, sizes, G.room, g.wrote.end, g.wrote.long);
+      },
+      record { start = start_of (get_or side 0 0); chain = chained side more (subst (λ (x : List ℕ). AllAdjacentBelow (λ p q. eqb (start_of p + length_of p) (start_of q) ≡ true) x (length side)) b.is b.adjacent) (start_of (get_or side 0 0)) refl },
+    )
+
+    pub side_gathered : {new : Bytes} {k : ℕ} → (k ≡ next to (joined (fields_in t l w side)) cur) × (new ≡ put to (joined (fields_in t l w side)) cur)
+        → Gathered t l w es out at more new k
+    side_gathered {new} {k} d =
+        record {
+          before = g.before ++ side;
+          is = g.is ∙ ap (λ (x : List ℕ). g.before ++ x) b.is ∙ sym (append_assoc g.before side more);
+          wrote = subst (λ (x : Bytes). Wrote out at x new k) (sym (fields-append t l w g.before side)) (join-writes g.wrote (wrote cur to (joined (fields_in t l w side)) d side_gathers.0.room));
+        }

@@ -10,11 +10,9 @@ use Rattle.msgpack_values.specs.Pieces.{joined}
 use Rattle.msgpack_writing.specs.Put.{put, next}
 use Rattle.msgpack_writing.proofs.Put.{Wrote, wrote, nothing, join as join-writes}
 use Rattle.update_places.specs.Place.{start_of, length_of, bytes_from, fields_in, sum}
-use Rattle.update_places.proofs.Places.{map-take}
-use Rattle.update_places.proofs.Runs.{placed}
 use Rattle.update_places.proofs.Chains.{chain-drop, chain-joined, chain_first, chain-last}
 use Rattle.update_delivering.specs.Gathering.{Gathers, Side, Sides}
-use Rattle.update_delivering.proofs.Runs.{Front, front_split, fields_split, whole_drop}
+use Rattle.update_delivering.proofs.Runs.{Front, front_split, fields_split, whole_drop, whole_take}
 
 pub side_none : {t l w : Bytes} {es : List ℕ} {out : Bytes} {at : ℕ} → Gathers t l w es out at → length es ≡ 0
     → (at ≡ next at (joined (fields_in t l w es)) out) × (out ≡ put at (joined (fields_in t l w es)) out)
@@ -43,14 +41,9 @@ module _ {t l w : Bytes} {es : List ℕ} {out : Bytes} {at : ℕ} (G : Gathers t
 
   pub side_written : {new : Bytes} {r : ℕ} → (r ≡ next at (bytes_from t l w from (k + m - from)) out) × (new ≡ put at (bytes_from t l w from (k + m - from)) out)
       → (r ≡ next at (joined (fields_in t l w es)) out) × (new ≡ put at (joined (fields_in t l w es)) out)
-  side_written {new} {r} d = placed (bytes_from t l w from (k + m - from)) (joined (fields_in t l w es)) out new at r side_bytes d
+  side_written {new} {r} d = rw side_bytes at d
 
 -- ---- the three parts
-
-whole_take : (t l w : Bytes) (es : List ℕ) (i : ℕ) → map length (fields_in t l w es) ≡ map length_of es
-    → map length (fields_in t l w (take i es)) ≡ map length_of (take i es)
-unfolding fields_in
-whole_take t l w es i m = rw (map-take, map-take, map-take) (ap (take i) m)
 
 module _ {t l w : Bytes} {es : List ℕ} {out : Bytes} {at low tail : ℕ} (G : Gathers t l w es out at) (S : Sides es low tail)
     (last : ℕ) (h : low ≤ last) (k : last ≤ length es) (m : length es - tail ≤ last) where

@@ -22,12 +22,14 @@ use Rattle.tuples.proofs.Legal.{Fits, Legal}
 use Rattle.tuples.proofs.Tuple.{read_plain}
 use Rattle.update_running.specs.declared.Stage.{Stage}
 use Rattle.update_running.specs.Held.{fields_now}
-use Rattle.update_running.specs.Carrying.{Came, stops, makes, comes_to, takes_back, rest_of, work_room, table_room, Stalled, Carried}
+use Rattle.update_running.specs.Carrying.{Came, stops, makes, comes_to, takes_back, rest_of, work_room, table_room, Stalled, Carried, Carries}
 use Rattle.update_running.proofs.Performing.{fields-length, within}
-use Rattle.update_delivering.specs.Delivering.{Tried, Pressed, update_by, undo_by, long_by, Lacks, TriesUpdate, TriesUndo, TriesPress}
+use Rattle.update_delivering.specs.Delivering.{Tried, failed_of, update_by, undo_by, long_by, Lacks, TriesUpdate, TriesUndo, TriesPress}
 use Rattle.update_delivering.specs.Gathering.{shown, Stands, undo_outcome, Undoes, Delivers, DeliversBoth, Moves}
 use Rattle.update_delivering.proofs.Holds.{same-fields, stands, undoes-held, outcome}
-use Rattle.update_delivering.specs.declared.Failed.TheVariants.{NoRoom, Refused}
+use Rattle.update_running.specs.declared.Unfinished.{Unfinished}
+use Rattle.update_running.specs.declared.Unfinished.TheVariants.{Full, NoRoom as NoRoomHere, Refused as RefusedHere}
+use Rattle.update_delivering.specs.declared.Failed.TheVariants.{Refused}
 use Rattle.update_delivering.specs.declared.Unwritten.TheVariants.{Moved, NoRoom as NoRoomYet, Refused as RefusedYet}
 
 -- ---- the arrays had no room
@@ -142,23 +144,40 @@ module _ {T : Option Fields} {t l w : Bytes} {table back : List ℕ} {base n fir
   undone : length back ≡ max_operations → undo_outcome t l w back z ≡ undo_by D B
   undone e = outcome K.held e ∙ ap limited_list (sym K.undoes) ∙ ap (λ (c : Came). undo_by c B) (sym K.goes)
 
-  pub tries_update : (r : Tried) (work out out' spare : Bytes) (old : List ℕ) → Delivers r (bytes (plain (shown t l w table z))) out out'
-      → TriesUpdate r D l out out' spare spare work old base n first
-  tries_update (Err NoRoomYet) work out out' spare old d = absurd d
-  tries_update (Err (Moved k a j)) work out out' spare old d = absurd d
-  tries_update (Err (RefusedYet k j)) work out out' spare old d = (d.0 ∙ ap (λ (o : Outcome). delivered o out) made, refl, d.1)
-  tries_update (Ok k) work out out' spare old d = (d ∙ ap (λ (o : Outcome). delivered o out) made, refl)
+  module _ (work out out' spare : Bytes) (old : List ℕ) where
+    pub update-refuses : (k : Refusal) → Delivers (Err k) (bytes (plain (shown t l w table z))) out out' → TriesUpdate (Err (RefusedYet k 0)) D l out out' spare spare work old base n first
+    update-refuses k d = (d ∙ ap (λ (o : Outcome). delivered o out) made, refl, omega arith)
 
-  pub tries_undo : (r : Tried) (work out out' : Bytes) (old : List ℕ) → length back ≡ max_operations → Delivers r (undo_outcome t l w back z) out out'
-      → TriesUndo r D B out out' work old
-  tries_undo (Err NoRoomYet) work out out' old e d = absurd d
-  tries_undo (Err (Moved k a j)) work out out' old e d = absurd d
-  tries_undo (Err (RefusedYet k j)) work out out' old e d = (d.0 ∙ ap (λ (o : Outcome). delivered o out) (undone e), d.1)
-  tries_undo (Ok k) work out out' old e d = d ∙ ap (λ (o : Outcome). delivered o out) (undone e)
+    pub update-writes : {k : ℕ} → Delivers (Ok k) (bytes (plain (shown t l w table z))) out out' → TriesUpdate (Ok k) D l out out' spare spare work old base n first
+    update-writes d = (d ∙ ap (λ (o : Outcome). delivered o out) made, refl)
 
-  pub tries_press : (r : Pressed) (work out out' un un' : Bytes) (old : List ℕ) → length back ≡ max_operations
-      → DeliversBoth r (pressing (bytes (plain (shown t l w table z))) (undo_outcome t l w back z)) out out' un un'
-      → TriesPress r D B out out' un un' work old
-  tries_press (Err NoRoom) work out out' un un' old e d = absurd d
-  tries_press (Err (Refused k j)) work out out' un un' old e d = (d.0 ∙ rw (made, undone e), d.1)
-  tries_press (Ok (n, k)) work out out' un un' old e d = d ∙ rw (made, undone e)
+  module _ (work out out' : Bytes) (old : List ℕ) (e : length back ≡ max_operations) where
+    pub undo-refuses : (k : Refusal) → Delivers (Err k) (undo_outcome t l w back z) out out' → TriesUndo (Err (Refused k 0)) D B out out' work old
+    undo-refuses k d = (d ∙ ap (λ (o : Outcome). delivered o out) (undone e), omega arith)
+
+    pub undo-writes : {k : ℕ} → Delivers (Ok k) (undo_outcome t l w back z) out out' → TriesUndo (Ok k) D B out out' work old
+    undo-writes d = d ∙ ap (λ (o : Outcome). delivered o out) (undone e)
+
+    module _ (un un' : Bytes) where
+      pub press-refuses : (k : Refusal) → DeliversBoth (Err k) (pressing (bytes (plain (shown t l w table z))) (undo_outcome t l w back z)) out out' un un'
+          → TriesPress (Err (Refused k 0)) D B out out' un un' work old
+      press-refuses k d = (d ∙ rw (made, undone e), omega arith)
+
+      pub press-writes : (r : ℕ × ℕ) → DeliversBoth (Ok r) (pressing (bytes (plain (shown t l w table z))) (undo_outcome t l w back z)) out out' un un'
+          → TriesPress (Ok r) D B out out' un un' work old
+      press-writes (k, m) d = d ∙ rw (made, undone e)
+
+-- ---- the list was not done
+
+module _ (T : Option Fields) (t l w : Bytes) (table back : List ℕ) (base n first start : ℕ) (old work : List ℕ) (e : length table ≡ length old) (f : length w ≡ length work) where
+  pub undo-fails : (u : Unfinished) → Carries (Err u) T t l w table back base n first start → (out : Bytes)
+      → TriesUndo (Err (failed_of u)) (comes_to first T (rest_of base n first start l)) (takes_back T (rest_of base n first start l)) out out work old
+  undo-fails NoRoomHere h out = (refl, inl (lacks old work table w e f h))
+  undo-fails (Full z at i) h out = (refl, inr (stalled_long h work f))
+  undo-fails (RefusedHere k i) h out = (undo-refused _ _ k i out h.0, h.1)
+
+  pub press-fails : (u : Unfinished) → Carries (Err u) T t l w table back base n first start → (out un : Bytes)
+      → TriesPress (Err (failed_of u)) (comes_to first T (rest_of base n first start l)) (takes_back T (rest_of base n first start l)) out out un un work old
+  press-fails NoRoomHere h out un = (refl, refl, inl (lacks old work table w e f h))
+  press-fails (Full z at i) h out un = (refl, refl, inr (stalled_long h work f))
+  press-fails (RefusedHere k i) h out un = (press-refused _ _ k i out un h.0, h.1)

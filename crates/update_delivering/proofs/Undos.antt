@@ -1,11 +1,11 @@
 -- The operations of an undo list, written from its entries. Assumes nothing.
 use mathlib.Core.Path.{◌≡◌, refl, sym, ap, ◌∙◌, subst}
-use mathlib.Core.List.{List, [], ◌∷◌, ◌++◌, append-nil}
-use Prim.Native.Nat.{ℕ, suc, ◌+◌, ◌-◌, ◌<◌, ◌≤◌}
+use mathlib.Core.List.{List, [], ◌∷◌, ◌++◌, append-nil, append_assoc}
+use Prim.Native.Nat.{ℕ, ◌+◌, ◌^◌, ◌<◌, ◌≤◌}
 use native.Mathlib.Omega.{arith}
 use borrow.Author.Tests.{eq-eqb, ne_eqb}
-use lib.ListN.{length, take, drop, get_or, length-append, take-append-drop, drop_of_length-le}
-use lib.Seq.{drop-cons, get_or-take, length-take-le}
+use lib.ListN.{length, take, get_or, length-append}
+use lib.Seq.{get_or-take, get_or-append_seam, length-take-le}
 use Rattle.msgpack_first_bytes.specs.Bytes.{Bytes}
 use Rattle.msgpack_values.specs.Pieces.{joined}
 use Rattle.msgpack_writing.specs.Forms.{array_header, string_header, unsigned_form}
@@ -50,48 +50,57 @@ module _ (t l w old : Bytes) (e m f at : ℕ) (p : m ≡ entry_mark e) (q : f �
 
 -- ---- the loop: from the last entry to the first
 
--- the operations of the entries from i on
-abbrev pub Rear : Bytes → Bytes → Bytes → List ℕ → ℕ → ℕ → Bytes
-Rear t l w back laid i = joined (undo_in t l w (drop i (take laid back)))
+-- there are marks for the entries that are laid, and so for these alone
+pub entries-taken : {back : List ℕ} {laid : ℕ} → Entries back laid → Entries (take laid back) (length (take laid back))
+entries-taken {back} {laid} E =
+    let n = length-take-le laid back E.inside in
+    record {
+      inside = omega arith;
+      few = omega (arith, E.few);
+      marks = λ i h. subst (λ (x : ℕ). entry_mark x < 2 ^ 8) (sym (get_or-take laid back i 0 (omega arith))) (E.marks i (omega arith));
+    }
 
-module _ (t l w out : Bytes) (at : ℕ) {back : List ℕ} {laid : ℕ} (E : Entries back laid)
-    (R : at + length (joined (undo_in t l w (take laid back))) ≤ length out) where
-  few : length (take laid back) ≡ laid
-  few = length-take-le laid back E.inside
+-- the operations of the entries after those that are left are written
+pub record Written (t l w : Bytes) (es : List ℕ) (out : Bytes) (at : ℕ) (left : List ℕ) (cur : Bytes) (to : ℕ) : Type 0 where
+  pub behind : List ℕ
+  pub is : es ≡ left ++ behind
+  pub wrote : Wrote out at (joined (undo_in t l w behind)) cur to
 
-  pub rear-begun : Wrote out at (Rear t l w back laid laid) out at
+module _ (t l w out : Bytes) (at : ℕ) {es : List ℕ} (E : Entries es (length es)) (R : at + length (joined (undo_in t l w es)) ≤ length out) where
+  pub written-begun : Written t l w es out at es out at
   unfolding undo_in joined
-  rear-begun = rw (drop_of_length-le (take laid back) {i = laid} (let e = few in omega arith)) (wrote out at [] (nothing out at [] refl) (omega arith))
+  written-begun = record { behind = []; is = sym (append-nil es); wrote = wrote out at [] (nothing out at [] refl) (omega (arith, R)) }
 
-  module _ (i : ℕ) (h : 0 < i) (k : i ≤ laid) where
-    abbrev entry : Bytes
-    entry = entry_bytes t l w (get_or back (i - 1) 0)
+  pub written-ended : {left : List ℕ} {cur : Bytes} {to : ℕ} → Written t l w es out at left cur to → length left ≡ 0 → Wrote out at (joined (undo_in t l w es)) cur to
+  written-ended {left = []} {cur} {to} g e = subst (λ (x : List ℕ). Wrote out at (joined (undo_in t l w x)) cur to) (sym g.is) g.wrote
+  written-ended {left = x ∷ left} g e = absurd (omega arith)
 
-    rear-step : Rear t l w back laid (i - 1) ≡ Rear t l w back laid i ++ entry
+  module _ {left : List ℕ} {cur : Bytes} {to : ℕ} (fewer : List ℕ) (e : ℕ) (g : Written t l w es out at left cur to) (d : left ≡ fewer ++ e ∷ []) where
+    split : es ≡ fewer ++ e ∷ g.behind
+    split = g.is ∙ ap (λ (x : List ℕ). x ++ g.behind) d ∙ append_assoc fewer (e ∷ []) g.behind
+
+    grown : joined (undo_in t l w (e ∷ g.behind)) ≡ joined (undo_in t l w g.behind) ++ entry_bytes t l w e
     unfolding undo_in joined
-    rear-step =
-        let L = take laid back in
-        let e : suc (i - 1) ≡ i = omega arith in
-        let g : drop (i - 1) L ≡ get_or back (i - 1) 0 ∷ drop i L
-        = drop-cons L (i - 1) 0 (let z = few in omega arith) ∙ ap (λ (x : ℕ). x ∷ drop (suc (i - 1)) L) (get_or-take laid back (i - 1) 0 (omega arith)) ∙ ap (λ (x : ℕ). get_or back (i - 1) 0 ∷ drop x L) e in
-        ap (λ (x : List ℕ). joined (undo_in t l w x)) g ∙ joined-append (undo_in t l w (drop i L)) (entry ∷ []) ∙ ap (λ (x : Bytes). Rear t l w back laid i ++ x) (append-nil entry)
+    grown = joined-append (undo_in t l w g.behind) (entry_bytes t l w e ∷ []) ∙ ap (λ (x : Bytes). joined (undo_in t l w g.behind) ++ x) (append-nil (entry_bytes t l w e))
 
-    sizes : at + length (Rear t l w back laid i) + length entry ≤ length out
+    sizes : length (joined (undo_in t l w g.behind)) + length (entry_bytes t l w e) ≤ length (joined (undo_in t l w es))
     sizes =
-        let L = take laid back in
-        let a = ap length (rear-step) ∙ length-append (Rear t l w back laid i) entry in
-        let b : length (joined (undo_in t l w L)) ≡ length (Rear t l w back laid (i - 1)) + length (joined (undo_in t l w (take (i - 1) L)))
-        = ap (λ (x : List ℕ). length (joined (undo_in t l w x))) (sym (take-append-drop (i - 1) L))
-        ∙ ap (λ (x : List Bytes). length (joined x)) (undo-append t l w (take (i - 1) L) (drop (i - 1) L))
-        ∙ ap length (joined-append (undo_in t l w (drop (i - 1) L)) (undo_in t l w (take (i - 1) L))) ∙ length-append (Rear t l w back laid (i - 1)) (joined (undo_in t l w (take (i - 1) L))) in
-        omega (arith, a, b, R)
+        let a = ap (λ (x : List ℕ). length (joined (undo_in t l w x))) split ∙ ap (λ (x : List Bytes). length (joined x)) (undo-append t l w fewer (e ∷ g.behind))
+        ∙ ap length (joined-append (undo_in t l w (e ∷ g.behind)) (undo_in t l w fewer)) ∙ length-append (joined (undo_in t l w (e ∷ g.behind))) (joined (undo_in t l w fewer)) in
+        let b = ap length grown ∙ length-append (joined (undo_in t l w g.behind)) (entry_bytes t l w e) in
+        omega (arith, a, b)
 
-    module _ {cur : Bytes} {to : ℕ} (v : Wrote out at (Rear t l w back laid i) cur to) where
-      pub rear-room : to + length entry ≤ length cur
-      rear-room = let s = sizes in omega (arith, v.end, v.long)
+    pub entry-room : (entry_mark e < 2 ^ 8) × (to + length (entry_bytes t l w e) ≤ length cur)
+    entry-room =
+        let n = ap length split ∙ length-append fewer (e ∷ g.behind) in (
+          subst (λ (x : ℕ). entry_mark x < 2 ^ 8) (ap (λ (x : List ℕ). get_or x (length fewer) 0) split ∙ get_or-append_seam fewer e g.behind 0) (E.marks (length fewer) (omega arith)),
+          omega (arith, sizes, R, g.wrote.end, g.wrote.long),
+        )
 
-      pub rear-written : {new : Bytes} {b : ℕ} → Puts to entry cur new b → Wrote out at (Rear t l w back laid (i - 1)) new b
-      rear-written {new} {b} d = subst (λ (x : Bytes). Wrote out at x new b) (sym rear-step) (join-writes v (wrote cur to entry d rear-room))
-
-  pub rear-ended : (i : ℕ) {cur : Bytes} {to : ℕ} → i ≡ 0 → Wrote out at (Rear t l w back laid i) cur to → Wrote out at (joined (undo_in t l w (take laid back))) cur to
-  rear-ended i {cur} {to} e v = subst (λ (n : ℕ). Wrote out at (Rear t l w back laid n) cur to) e v
+    pub entry_written : {new : Bytes} {k : ℕ} → Puts to (entry_bytes t l w e) cur new k → Written t l w es out at fewer new k
+    entry_written {new} {k} a =
+        record {
+          behind = e ∷ g.behind;
+          is = split;
+          wrote = subst (λ (x : Bytes). Wrote out at x new k) (sym grown) (join-writes g.wrote (wrote cur to (entry_bytes t l w e) a entry-room.1));
+        }

@@ -5,12 +5,14 @@ use Rattle.msgpack_first_bytes.specs.Bytes.{Bytes}
 use Rattle.msgpack_values.specs.Spoiled.{no_place}
 use Rattle.tuples.specs.Limits.{max_tuple, max_operations}
 use Rattle.tuples.specs.Tuple.{Fields, plain, fields_of}
-use Rattle.tuples.specs.Call.{Outcome, refusal, bytes, limited_list, Result, refusing, delivered}
+use Rattle.tuples.specs.Call.{Outcome, refusal, bytes, limited_list, Result as CallResult, refusing, delivered}
 use Rattle.tuples.specs.Press.{pressing, PressResult, declining, pressed}
 use Rattle.tuples.specs.declared.Refusal.TheVariants.{LongUndo}
 use Rattle.update_running.specs.Carrying.{Came, stops, makes, comes_to, rest_of, table_room, work_room}
 use Rattle.update_delivering.specs.declared.Failed.TheVariants.{NoRoom, Refused}
 use Rattle.update_delivering.specs.declared.Unwritten.TheVariants.{Moved, NoRoom as NoRoomYet, Refused as RefusedYet}
+use Rattle.update_running.specs.declared.Unfinished.{Unfinished}
+use Rattle.update_running.specs.declared.Unfinished.TheVariants.{Full, NoRoom as NoRoomHere, Refused as RefusedHere}
 use Rattle.update_delivering.specs.declared.Failed.{Failed}
 use Rattle.update_delivering.specs.declared.Unwritten.{Unwritten}
 
@@ -18,9 +20,24 @@ use Rattle.update_delivering.specs.declared.Unwritten.{Unwritten}
 abbrev pub Tried : Type 0
 Tried = Result ℕ Unwritten
 
+-- the length of an undo list, or why nothing is written
+abbrev pub Undone : Type 0
+Undone = Result ℕ Failed
+
 -- both lengths written, or why nothing is
 abbrev pub Pressed : Type 0
 Pressed = Result (ℕ × ℕ) Failed
+
+-- why nothing is written: where the work array is full, there is no room in it
+abbrev pub failed_of : Unfinished → Failed
+failed_of NoRoomHere = NoRoom
+failed_of (Full z at i) = NoRoom
+failed_of (RefusedHere k i) = Refused k i
+
+abbrev pub call_failed : Unwritten → Failed
+call_failed NoRoomYet = NoRoom
+call_failed (Moved n at i) = NoRoom
+call_failed (RefusedYet k i) = Refused k i
 
 -- what is to be written: the new tuple, and the undo list
 abbrev pub update_by : Came → Outcome
@@ -37,7 +54,7 @@ long_by (stops k i) = refusal k i
 long_by (makes u) = refusal LongUndo 0
 
 -- an accepted call, without a place
-abbrev pub written : ℕ → Bytes → Result
+abbrev pub written : ℕ → Bytes → CallResult
 written n out = record { number = 0; operation = 0; length = n; place = no_place; buffer = out }
 
 abbrev pub both_written : ℕ → ℕ → Bytes → Bytes → PressResult
@@ -66,10 +83,9 @@ TriesUpdate (Err (RefusedYet k i)) c l out out' spare spare' work table base n f
 TriesUpdate (Ok k) c l out out' spare spare' work table base n first = (written k out' ≡ delivered (update_by c) out) × (spare' ≡ spare)
 
 -- us is what takes it back
-abbrev pub TriesUndo : Tried → Came → List Bytes → Bytes → Bytes → Bytes → List ℕ → Type 0
-TriesUndo (Err NoRoomYet) c us out out' work table = (out' ≡ out) × (Lacks table work ⊎ (length work < work_room) ⊎ (undo_by c us ≡ long_by c))
-TriesUndo (Err (Moved k at i)) c us out out' work table = ⊥
-TriesUndo (Err (RefusedYet k i)) c us out out' work table = (refusing k i out' ≡ delivered (undo_by c us) out) × (i ≤ max_operations)
+abbrev pub TriesUndo : Undone → Came → List Bytes → Bytes → Bytes → Bytes → List ℕ → Type 0
+TriesUndo (Err NoRoom) c us out out' work table = (out' ≡ out) × (Lacks table work ⊎ (length work < work_room) ⊎ (undo_by c us ≡ long_by c))
+TriesUndo (Err (Refused k i)) c us out out' work table = (refusing k i out' ≡ delivered (undo_by c us) out) × (i ≤ max_operations)
 TriesUndo (Ok k) c us out out' work table = written k out' ≡ delivered (undo_by c us) out
 
 abbrev pub TriesPress : Pressed → Came → List Bytes → Bytes → Bytes → Bytes → Bytes → Bytes → List ℕ → Type 0

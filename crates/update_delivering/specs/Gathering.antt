@@ -1,5 +1,5 @@
 -- Inner: what is written of what a run holds, and what writing asks.
-use Rattle.std.specs.Prelude.{ℕ, suc, ◌+◌, ◌-◌, ◌^◌, ◌<◌, ◌≤◌, ◌≡◌, Bool, ◌&&◌, List, [], ◌∷◌, ◌++◌, map, leb, eqb, length, take, drop, get_or, Ok, Err}
+use Rattle.std.specs.Prelude.{ℕ, ◌+◌, ◌-◌, ◌^◌, ◌<◌, ◌≤◌, ◌≡◌, Bool, ◌&&◌, List, ◌++◌, map, leb, length, take, drop, get_or, Ok, Err, Result}
 use Rattle.msgpack_first_bytes.specs.Bytes.{Bytes, pick}
 use Rattle.msgpack_values.specs.Pieces.{joined}
 use Rattle.msgpack_writing.specs.Forms.{array_header}
@@ -7,23 +7,14 @@ use Rattle.tuples.specs.Limits.{max_fields, max_tuple, max_operations, max_list}
 use Rattle.tuples.specs.Tuple.{Fields, plain}
 use Rattle.tuples.specs.Call.{Outcome, refusal, bytes, refusing, delivered}
 use Rattle.tuples.specs.Press.{Pressing, declining, pressed}
+use Rattle.tuples.specs.declared.Refusal.{Refusal}
 use Rattle.tuples.specs.declared.Refusal.TheVariants.{LongUndo}
-use Rattle.update_places.specs.Place.{start_of, length_of, fields_in, Sources, Chain}
+use Rattle.update_places.specs.Place.{length_of, fields_in, Sources, Chain}
 use Rattle.update_running.specs.declared.Stage.{Stage}
 use Rattle.update_running.specs.Steps.{entry_mark}
 use Rattle.update_running.specs.Held.{places_now, undo_in}
-use Rattle.update_delivering.specs.Delivering.{Tried, Pressed, written, both_written}
-use Rattle.update_delivering.specs.declared.Failed.TheVariants.{NoRoom, Refused}
+use Rattle.update_delivering.specs.Delivering.{Tried, written, both_written}
 use Rattle.update_delivering.specs.declared.Unwritten.TheVariants.{Moved, NoRoom as NoRoomYet, Refused as RefusedYet}
-
--- how many of the entries lie one behind the other from a start on, and where they end
-unfoldable pub besides : ℕ → List ℕ → ℕ
-besides a [] = 0
-besides a (e ∷ es) = pick (eqb (start_of e) a) (suc (besides (a + length_of e) es)) 0
-
-unfoldable pub reach : ℕ → List ℕ → ℕ
-reach a [] = a
-reach a (e ∷ es) = pick (eqb (start_of e) a) (reach (a + length_of e) es) a
 
 -- gathering: each entry's place lies whole in its source, and there is room for all
 pub record Gathers (t l w : Bytes) (es : List ℕ) (out : Bytes) (at : ℕ) : Type 0 where
@@ -79,15 +70,12 @@ pub record Undoes (t l w : Bytes) (back : List ℕ) (z : Stage) : Type 0 where
   pub bytes : z.laid ≤ max_operations → z.back ≡ length (joined (undo_shown t l w back z))
 
 -- what is answered, by what is to be written
-abbrev pub Delivers : Tried → Outcome → Bytes → Bytes → Type 0
-Delivers (Err NoRoomYet) o out out' = ⊥
-Delivers (Err (Moved k at i)) o out out' = ⊥
-Delivers (Err (RefusedYet k i)) o out out' = (refusing k i out' ≡ delivered o out) × (i ≤ max_operations)
+abbrev pub Delivers : Result ℕ Refusal → Outcome → Bytes → Bytes → Type 0
+Delivers (Err k) o out out' = refusing k 0 out' ≡ delivered o out
 Delivers (Ok k) o out out' = written k out' ≡ delivered o out
 
-abbrev pub DeliversBoth : Pressed → Pressing → Bytes → Bytes → Bytes → Bytes → Type 0
-DeliversBoth (Err NoRoom) o out out' un un' = ⊥
-DeliversBoth (Err (Refused k i)) o out out' un un' = (declining k i out' un' ≡ pressed o out un) × (i ≤ max_operations)
+abbrev pub DeliversBoth : Result (ℕ × ℕ) Refusal → Pressing → Bytes → Bytes → Bytes → Bytes → Type 0
+DeliversBoth (Err k) o out out' un un' = declining k 0 out' un' ≡ pressed o out un
 DeliversBoth (Ok (n, k)) o out out' un un' = both_written n k out' un' ≡ pressed o out un
 
 -- the fields as a tuple in the spare buffer

@@ -2,7 +2,7 @@
 // fields, after everything is judged; the undo list from its entries.
 #![tactic(auto)]
 
-ghost use Rattle.std.specs.Prelude.{◌≡◌, ◌++◌, ◌+◌, ◌-◌, ◌^◌, ◌<◌, ◌≤◌, length, take, drop};
+ghost use Rattle.std.specs.Prelude.{◌≡◌, ◌++◌, ◌+◌, ◌^◌, ◌<◌, ◌≤◌, length, take, drop, Ok, Err};
 ghost use Rattle.msgpack_first_bytes.specs.Bytes.{pick};
 ghost use Rattle.msgpack_values.specs.Pieces.{joined};
 ghost use Rattle.msgpack_writing.specs.Forms.{array_header};
@@ -14,140 +14,130 @@ ghost use Rattle.tuples.specs.Tuple.{fields_of, plain};
 ghost use Rattle.update_places.specs.Place.{fields_in};
 ghost use Rattle.update_running.specs.Steps.{entry_mark};
 ghost use Rattle.update_running.specs.Held.{entry_bytes, undo_in};
-ghost use Rattle.update_delivering.specs.Gathering.{besides, reach, Gathers, Side, Sides, shown, Stands, in_limits, undo_outcome, Entries, Undoes, Delivers, DeliversBoth, Moves};
+ghost use Rattle.update_delivering.specs.Gathering.{Gathers, Side, Sides, shown, Stands, in_limits, undo_outcome, Entries, Undoes, Delivers, DeliversBoth, Moves};
 ghost use Rattle.update_running.specs.Carrying.{comes_to, takes_back, rest_of};
-ghost use Rattle.update_delivering.specs.Delivering.{TriesUpdate, TriesUndo, TriesPress};
+ghost use Rattle.update_delivering.specs.Delivering.{failed_of, call_failed, TriesUpdate, TriesUndo, TriesPress};
+ghost use Rattle.tuples.specs.declared.Refusal.TheVariants.{LongUndo};
+ghost use Rattle.update_delivering.specs.declared.Failed.TheVariants.{Refused};
+ghost use Rattle.update_delivering.specs.declared.Unwritten.TheVariants.{Refused as RefusedYet};
 
 use tuples::{MAX_LIST, MAX_OPERATIONS, MAX_TUPLE, Refusal};
-use update_places::{length_of, start_of};
+use update_places::{Sources, length_of, start_of};
 use update_running::{Stage, Unfinished};
 
-// What a call came to: the arrays have no room; the work array was full, and the fields up to there stand as a
-// tuple in the spare buffer: its length, the place and the index of the next operation; a refusal; the length.
-// Why nothing is written for good: the arrays have no room; the work array was full, and the fields up to there stand as a
-// tuple in the spare buffer: its length, the place and the index of the next operation; a refusal.
+// Why no new tuple is written: the arrays have no room; the work array was full, and the fields up to there stand as
+// a tuple in the spare buffer; a refusal, at an operation.
 #[derive(Clone, Copy)]
 pub enum Unwritten {
     NoRoom,
+    // The length of that tuple, and the place and the index of the next operation.
     Moved(usize, usize, usize),
     Refused(Refusal, usize),
 }
 
+// The length of the new tuple, or why it is not written.
 pub type Tried = Result<usize, Unwritten>;
 
-// The same of a press, with both lengths.
-// Why nothing is written: the arrays have no room; a refusal.
+// Why nothing is written: the arrays have no room; a refusal, at an operation.
 #[derive(Clone, Copy)]
 pub enum Failed {
     NoRoom,
     Refused(Refusal, usize),
 }
 
+// The lengths of the new tuple and of the undo list, or why neither is written.
 pub type Pressed = Result<(usize, usize), Failed>;
+
+// Where the work array is full, the call has no room in it.
+impl From<Unfinished> for Failed {
+    ghost from_gives = { λ e f. f ≡ failed_of e };
+
+    fn from(unfinished: Unfinished) -> Failed {
+        match unfinished {
+            Unfinished::NoRoom => Failed::NoRoom,
+            Unfinished::Full(_, _, _) => Failed::NoRoom,
+            Unfinished::Refused(refusal, i) => Failed::Refused(refusal, i),
+        }
+    }
+}
+
+// A refusal of the whole call stands at operation 0.
+impl From<Refusal> for Failed {
+    ghost from_gives = { λ k f. f ≡ Refused k 0 };
+
+    fn from(refusal: Refusal) -> Failed {
+        Failed::Refused(refusal, 0)
+    }
+}
+
+// A call that takes no more turns had no room in one.
+impl From<Unwritten> for Failed {
+    ghost from_gives = { λ e f. f ≡ call_failed e };
+
+    fn from(unwritten: Unwritten) -> Failed {
+        match unwritten {
+            Unwritten::NoRoom => Failed::NoRoom,
+            Unwritten::Moved(_, _, _) => Failed::NoRoom,
+            Unwritten::Refused(refusal, i) => Failed::Refused(refusal, i),
+        }
+    }
+}
+
+impl From<Refusal> for Unwritten {
+    ghost from_gives = { λ k f. f ≡ RefusedYet k 0 };
+
+    fn from(refusal: Refusal) -> Unwritten {
+        Unwritten::Refused(refusal, 0)
+    }
+}
 
 // ---- the new tuple
 
-// Where places that lie side by side end, and the entry after them.
-#[derive(Clone, Copy)]
-struct Run {
-    end: usize,
-    next: usize,
-}
-
-// The entries from `first` on that lie side by side from `from` on.
-fn run_from(entries: &[u32], first: usize, from: usize) -> Run
-    requires { (first ≤ length entries.now) × (length entries.now ≤ max_fields) × (from < 2 ^ 32) }
-    ensures { (result.end ≡ reach from (drop first entries.now)) × (result.next ≡ first + besides from (drop first entries.now)) }
+// The fields of entries that lie side by side: one copy.
+fn gather_side(sources: Sources, entries: &[u32], out: &mut [u8], at: usize) -> usize
+    requires { Gathers sources.tuple.now sources.list.now sources.work.now entries.now out.old at × Side entries.now }
+    ensures { let fields = joined (fields_in sources.entry.tuple.now sources.entry.list.now sources.entry.work.now entries.now) in
+        (result ≡ next at fields out.old) × (out.new ≡ put at fields out.old) }
 {
-    let mut end = from;
-    let mut i = first;
-    while i < entries.len() {
-        let p = entries[i];
-        if start_of(p) != end {
-            return Run { end, next: i };
-        }
-        end += length_of(p);
-        i += 1;
-    }
-    Run { end, next: i }
-}
-
-// The fields of the entries, back to back: places that lie side by side go in one copy.
-fn gather_each(
-    tuple: &[u8],
-    list: &[u8],
-    work: &[u8],
-    entries: &[u32],
-    out: &mut [u8],
-    at: usize,
-) -> usize
-    requires { Gathers tuple.now list.now work.now entries.now out.old at }
-    ensures { (result ≡ next at (joined (fields_in tuple.now list.now work.now entries.now)) out.old)
-        × (out.new ≡ put at (joined (fields_in tuple.now list.now work.now entries.now)) out.old) }
-{
-    let mut to = at;
-    let mut i: usize = 0;
-    while i < entries.len() {
-        let from = start_of(entries[i]);
-        let run = run_from(entries, i, from);
-        to = update_places::copy_from(tuple, list, work, from, run.end - from, out, to);
-        i = run.next;
-    }
-    to
-}
-
-// The same of entries that are known to lie side by side: one copy.
-fn gather_side(
-    tuple: &[u8],
-    list: &[u8],
-    work: &[u8],
-    entries: &[u32],
-    out: &mut [u8],
-    at: usize,
-) -> usize
-    requires { Gathers tuple.now list.now work.now entries.now out.old at × Side entries.now }
-    ensures { (result ≡ next at (joined (fields_in tuple.now list.now work.now entries.now)) out.old)
-        × (out.new ≡ put at (joined (fields_in tuple.now list.now work.now entries.now)) out.old) }
-{
-    if entries.len() == 0 {
+    if entries.is_empty() {
         return at;
     }
     let from = start_of(entries[0]);
     let p = entries[entries.len() - 1];
     let n = start_of(p) + length_of(p) - from;
-    update_places::copy_from(tuple, list, work, from, n, out, at)
+    update_places::copy_from(sources, from, n, out, at)
 }
 
-// The first of the last entries that is not among the first `low`.
-fn rear_from(n: usize, low: usize, tail: usize) -> usize
-    requires { low ≤ n }
-    ensures { (low ≤ result) × (result ≤ n) × (n - tail ≤ result) }
+// The fields of any entries, back to back: places that lie side by side go in one copy.
+fn gather_each(sources: Sources, entries: &[u32], out: &mut [u8], at: usize) -> usize
+    requires { Gathers sources.tuple.now sources.list.now sources.work.now entries.now out.old at }
+    ensures { let fields = joined (fields_in sources.entry.tuple.now sources.entry.list.now sources.entry.work.now entries.now) in
+        (result ≡ next at fields out.old) × (out.new ≡ put at fields out.old) }
 {
-    if n - low < tail {
-        return low;
+    let mut to = at;
+    for side in entries.chunk_by(|a, b| start_of(*a) + length_of(*a) == start_of(*b)) {
+        to = gather_side(sources, side, out, to);
     }
-    n - tail
+    to
 }
 
-// The first `low` and the last `tail` entries lie side by side.
+// The fields of entries of which the first `low` and the last `tail` lie side by side.
 fn gather(
-    tuple: &[u8],
-    list: &[u8],
-    work: &[u8],
+    sources: Sources,
     entries: &[u32],
     low: usize,
     tail: usize,
     out: &mut [u8],
     at: usize,
 ) -> usize
-    requires { Gathers tuple.now list.now work.now entries.now out.old at × Sides entries.now low tail }
-    ensures { (result ≡ next at (joined (fields_in tuple.now list.now work.now entries.now)) out.old)
-        × (out.new ≡ put at (joined (fields_in tuple.now list.now work.now entries.now)) out.old) }
+    requires { Gathers sources.tuple.now sources.list.now sources.work.now entries.now out.old at × Sides entries.now low tail }
+    ensures { let fields = joined (fields_in sources.entry.tuple.now sources.entry.list.now sources.entry.work.now entries.now) in
+        (result ≡ next at fields out.old) × (out.new ≡ put at fields out.old) }
 {
-    let last = rear_from(entries.len(), low, tail);
-    let a = gather_side(tuple, list, work, &entries[..low], out, at);
-    let b = gather_each(tuple, list, work, &entries[low..last], out, a);
-    gather_side(tuple, list, work, &entries[last..], out, b)
+    let last = low.max(entries.len() - tail);
+    let a = gather_side(sources, &entries[..low], out, at);
+    let b = gather_each(sources, &entries[low..last], out, a);
+    gather_side(sources, &entries[last..], out, b)
 }
 
 fn tuple_length(stage: Stage) -> usize
@@ -157,80 +147,53 @@ fn tuple_length(stage: Stage) -> usize
     msgpack_writing::array_header_length(stage.fields as u32) + stage.bytes
 }
 
-fn write_tuple(tuple: &[u8], list: &[u8], work: &[u8], table: &[u32], stage: Stage, out: &mut [u8])
-    requires { Stands tuple.now list.now work.now table.now stage × (length (plain (shown tuple.now list.now work.now table.now stage)) ≤ length out.old) }
-    ensures { out.new ≡ plain (shown tuple.now list.now work.now table.now stage)
-        ++ drop (length (plain (shown tuple.now list.now work.now table.now stage))) out.old }
+fn write_tuple(sources: Sources, table: &[u32], stage: Stage, out: &mut [u8])
+    requires { Stands sources.tuple.now sources.list.now sources.work.now table.now stage × (length (plain (shown sources.tuple.now sources.list.now sources.work.now table.now stage)) ≤ length out.old) }
+    ensures { out.new ≡ plain (shown sources.entry.tuple.now sources.entry.list.now sources.entry.work.now table.now stage)
+        ++ drop (length (plain (shown sources.entry.tuple.now sources.entry.list.now sources.entry.work.now table.now stage))) out.old }
 {
-    let fields = stage.fields;
-    let at = msgpack_writing::write_array_header(out, 0, fields as u32);
-    let head = stage.head;
-    let end = head + fields;
-    gather(
-        tuple,
-        list,
-        work,
-        &table[head..end],
-        stage.low,
-        stage.tail,
-        out,
-        at,
-    );
+    let at = msgpack_writing::write_array_header(out, 0, stage.fields as u32);
+    let entries = &table[stage.head..stage.head + stage.fields];
+    gather(sources, entries, stage.low, stage.tail, out, at);
 }
 
-fn deliver(
-    tuple: &[u8],
-    list: &[u8],
-    work: &[u8],
-    table: &[u32],
-    stage: Stage,
-    out: &mut [u8],
-) -> Tried
-    requires { Stands tuple.now list.now work.now table.now stage }
-    ensures { Delivers result (bytes (plain (shown tuple.now list.now work.now table.now stage))) out.old out.new }
+fn deliver(sources: Sources, table: &[u32], stage: Stage, out: &mut [u8]) -> Result<usize, Refusal>
+    requires { Stands sources.tuple.now sources.list.now sources.work.now table.now stage }
+    ensures { Delivers result (bytes (plain (shown sources.entry.tuple.now sources.entry.list.now sources.entry.work.now table.now stage))) out.old out.new }
 {
     let length = tuple_length(stage);
     if out.len() < length {
-        return Err(Unwritten::Refused(Refusal::ShortBuffer, 0));
+        return Err(Refusal::ShortBuffer);
     }
-    write_tuple(tuple, list, work, table, stage, out);
+    write_tuple(sources, table, stage, out);
     Ok(length)
 }
 
 // The fields up to an operation, as a tuple for the operations from there on.
 fn rebase(
-    tuple: &[u8],
-    list: &[u8],
-    work: &[u8],
+    sources: Sources,
     table: &[u32],
     stage: Stage,
     at: usize,
     i: usize,
     spare: &mut [u8],
 ) -> Tried
-    requires { Stands tuple.now list.now work.now table.now stage }
-    ensures { Moves result (shown tuple.now list.now work.now table.now stage) spare.old spare.new at i }
+    requires { Stands sources.tuple.now sources.list.now sources.work.now table.now stage }
+    ensures { Moves result (shown sources.entry.tuple.now sources.entry.list.now sources.entry.work.now table.now stage) spare.old spare.new at i }
 {
     if spare.len() < MAX_TUPLE {
         return Err(Unwritten::NoRoom);
     }
-    write_tuple(tuple, list, work, table, stage, spare);
+    write_tuple(sources, table, stage, spare);
     Err(Unwritten::Moved(tuple_length(stage), at, i))
 }
 
 // ---- the undo list
 
-fn write_entry(
-    tuple: &[u8],
-    list: &[u8],
-    work: &[u8],
-    entry: u64,
-    out: &mut [u8],
-    at: usize,
-) -> usize
-    requires { (entry_mark entry < 2 ^ 8) × (at + length (entry_bytes tuple.now list.now work.now entry) ≤ length out.old) }
-    ensures { (result ≡ next at (entry_bytes tuple.now list.now work.now entry) out.old)
-        × (out.new ≡ put at (entry_bytes tuple.now list.now work.now entry) out.old) }
+fn write_entry(sources: Sources, entry: u64, out: &mut [u8], at: usize) -> usize
+    requires { (entry_mark entry < 2 ^ 8) × (at + length (entry_bytes sources.tuple.now sources.list.now sources.work.now entry) ≤ length out.old) }
+    ensures { (result ≡ next at (entry_bytes sources.entry.tuple.now sources.entry.list.now sources.entry.work.now entry) out.old)
+        × (out.new ≡ put at (entry_bytes sources.entry.tuple.now sources.entry.list.now sources.entry.work.now entry) out.old) }
 {
     let f = (entry >> 32) % 0x1_0000;
     let mark = (entry >> 48) as u8;
@@ -241,107 +204,87 @@ fn write_entry(
     if mark == 0x23 {
         return msgpack_writing::write_unsigned(out, value, 1);
     }
-    update_places::copy_from(tuple, list, work, start_of(p), length_of(p), out, value)
+    update_places::copy_from(sources, start_of(p), length_of(p), out, value)
 }
 
 // What was laid last comes first.
-fn write_entries(
-    tuple: &[u8],
-    list: &[u8],
-    work: &[u8],
-    back: &[u64],
-    laid: usize,
-    out: &mut [u8],
-    at: usize,
-) -> usize
-    requires { Entries back.now laid × (at + length (joined (undo_in tuple.now list.now work.now (take laid back.now))) ≤ length out.old) }
-    ensures { (result ≡ next at (joined (undo_in tuple.now list.now work.now (take laid back.now))) out.old)
-        × (out.new ≡ put at (joined (undo_in tuple.now list.now work.now (take laid back.now))) out.old) }
+fn write_entries(sources: Sources, entries: &[u64], out: &mut [u8], at: usize) -> usize
+    requires { Entries entries.now (length entries.now) × (at + length (joined (undo_in sources.tuple.now sources.list.now sources.work.now entries.now)) ≤ length out.old) }
+    ensures { let operations = joined (undo_in sources.entry.tuple.now sources.entry.list.now sources.entry.work.now entries.now) in
+        (result ≡ next at operations out.old) × (out.new ≡ put at operations out.old) }
 {
     let mut to = at;
-    let mut i = laid;
-    while 0 < i {
-        i -= 1;
-        to = write_entry(tuple, list, work, back[i], out, to);
+    for entry in entries.iter().rev() {
+        to = write_entry(sources, *entry, out, to);
     }
     to
 }
 
-// 0 for a list above the limits.
-fn undo_length(stage: Stage) -> usize
+// How long the undo list is, where it is within the limits.
+fn undo_length(stage: Stage) -> Result<usize, Refusal>
     requires { stage.back < 2 ^ 32 }
-    ensures { result ≡ pick (in_limits stage.laid stage.back) (length (array_header stage.laid) + stage.back) 0 }
+    ensures { result ≡ pick (in_limits stage.laid stage.back) (Ok (length (array_header stage.laid) + stage.back)) (Err LongUndo) }
 {
     let laid = stage.laid;
     if MAX_OPERATIONS < laid {
-        return 0;
+        return Err(Refusal::LongUndo);
     }
     let length = msgpack_writing::array_header_length(laid as u32) + stage.back;
     if MAX_LIST < length {
-        return 0;
+        return Err(Refusal::LongUndo);
     }
-    length
+    Ok(length)
 }
 
-fn write_undo(tuple: &[u8], list: &[u8], work: &[u8], back: &[u64], laid: usize, out: &mut [u8])
-    requires { Entries back.now laid × (length (plain (undo_in tuple.now list.now work.now (take laid back.now))) ≤ length out.old) }
-    ensures { out.new ≡ plain (undo_in tuple.now list.now work.now (take laid back.now))
-        ++ drop (length (plain (undo_in tuple.now list.now work.now (take laid back.now)))) out.old }
+fn write_undo(sources: Sources, back: &[u64], laid: usize, out: &mut [u8])
+    requires { Entries back.now laid × (length (plain (undo_in sources.tuple.now sources.list.now sources.work.now (take laid back.now))) ≤ length out.old) }
+    ensures { out.new ≡ plain (undo_in sources.entry.tuple.now sources.entry.list.now sources.entry.work.now (take laid back.now))
+        ++ drop (length (plain (undo_in sources.entry.tuple.now sources.entry.list.now sources.entry.work.now (take laid back.now)))) out.old }
 {
     let at = msgpack_writing::write_array_header(out, 0, laid as u32);
-    write_entries(tuple, list, work, back, laid, out, at);
+    write_entries(sources, &back[..laid], out, at);
 }
 
 fn deliver_undo(
-    tuple: &[u8],
-    list: &[u8],
-    work: &[u8],
+    sources: Sources,
     back: &[u64],
     stage: Stage,
     out: &mut [u8],
-) -> Tried
-    requires { Undoes tuple.now list.now work.now back.now stage }
-    ensures { Delivers result (undo_outcome tuple.now list.now work.now back.now stage) out.old out.new }
+) -> Result<usize, Refusal>
+    requires { Undoes sources.tuple.now sources.list.now sources.work.now back.now stage }
+    ensures { Delivers result (undo_outcome sources.entry.tuple.now sources.entry.list.now sources.entry.work.now back.now stage) out.old out.new }
 {
-    let length = undo_length(stage);
-    if length == 0 {
-        return Err(Unwritten::Refused(Refusal::LongUndo, 0));
-    }
+    let length = undo_length(stage)?;
     if out.len() < length {
-        return Err(Unwritten::Refused(Refusal::ShortBuffer, 0));
+        return Err(Refusal::ShortBuffer);
     }
-    write_undo(tuple, list, work, back, stage.laid, out);
+    write_undo(sources, back, stage.laid, out);
     Ok(length)
 }
 
 // Everything is judged before anything is written.
 fn deliver_both(
-    tuple: &[u8],
-    list: &[u8],
-    work: &[u8],
+    sources: Sources,
     table: &[u32],
     back: &[u64],
     stage: Stage,
     out: &mut [u8],
     undo: &mut [u8],
-) -> Pressed
-    requires { Stands tuple.now list.now work.now table.now stage × Undoes tuple.now list.now work.now back.now stage }
-    ensures { DeliversBoth result (pressing (bytes (plain (shown tuple.now list.now work.now table.now stage))) (undo_outcome tuple.now list.now work.now back.now stage))
+) -> Result<(usize, usize), Refusal>
+    requires { Stands sources.tuple.now sources.list.now sources.work.now table.now stage × Undoes sources.tuple.now sources.list.now sources.work.now back.now stage }
+    ensures { DeliversBoth result (pressing (bytes (plain (shown sources.entry.tuple.now sources.entry.list.now sources.entry.work.now table.now stage))) (undo_outcome sources.entry.tuple.now sources.entry.list.now sources.entry.work.now back.now stage))
         out.old out.new undo.old undo.new }
 {
     let length = tuple_length(stage);
-    let undo_length = undo_length(stage);
-    if undo_length == 0 {
-        return Err(Failed::Refused(Refusal::LongUndo, 0));
-    }
+    let undo_length = undo_length(stage)?;
     if out.len() < length {
-        return Err(Failed::Refused(Refusal::ShortBuffer, 0));
+        return Err(Refusal::ShortBuffer);
     }
     if undo.len() < undo_length {
-        return Err(Failed::Refused(Refusal::ShortBuffer, 0));
+        return Err(Refusal::ShortBuffer);
     }
-    write_tuple(tuple, list, work, table, stage, out);
-    write_undo(tuple, list, work, back, stage.laid, undo);
+    write_tuple(sources, table, stage, out);
+    write_undo(sources, back, stage.laid, undo);
     Ok((length, undo_length))
 }
 
@@ -362,22 +305,16 @@ pub fn update_with(
     ensures { TriesUpdate result (comes_to first (fields_of tuple.now) (rest_of base count first start list.now)) list.now
         out.old out.new spare.old spare.new work.old table.old base count first }
 {
-    let mut none = [0u64; 1];
+    let mut none = [0u64; 0];
     match update_running::carry_out(
-        tuple,
-        list,
-        base,
-        start,
-        first,
-        count,
-        work,
-        table,
-        &mut none[..0],
+        tuple, list, base, start, first, count, work, table, &mut none,
     ) {
         Err(Unfinished::NoRoom) => Err(Unwritten::NoRoom),
         Err(Unfinished::Refused(refusal, i)) => Err(Unwritten::Refused(refusal, i)),
-        Err(Unfinished::Full(stage, at, i)) => rebase(tuple, list, work, table, stage, at, i, spare),
-        Ok(stage) => deliver(tuple, list, work, table, stage, out),
+        Err(Unfinished::Full(stage, at, i)) => {
+            rebase(Sources { tuple, list, work }, table, stage, at, i, spare)
+        }
+        Ok(stage) => Ok(deliver(Sources { tuple, list, work }, table, stage, out)?),
     }
 }
 
@@ -391,17 +328,15 @@ pub fn undo_with(
     table: &mut [u32],
     work: &mut [u8],
     out: &mut [u8],
-) -> Tried
+) -> Result<usize, Failed>
     ensures { TriesUndo result (comes_to 0 (fields_of tuple.now) (rest_of base count 0 start list.now))
         (takes_back (fields_of tuple.now) (rest_of base count 0 start list.now)) out.old out.new work.old table.old }
 {
     let mut back = [0u64; MAX_OPERATIONS];
-    match update_running::carry_out(tuple, list, base, start, 0, count, work, table, &mut back) {
-        Err(Unfinished::NoRoom) => Err(Unwritten::NoRoom),
-        Err(Unfinished::Full(_, _, _)) => Err(Unwritten::NoRoom),
-        Err(Unfinished::Refused(refusal, i)) => Err(Unwritten::Refused(refusal, i)),
-        Ok(stage) => deliver_undo(tuple, list, work, &back, stage, out),
-    }
+    let stage = update_running::carry_out(
+        tuple, list, base, start, 0, count, work, table, &mut back,
+    )?;
+    Ok(deliver_undo(Sources { tuple, list, work }, &back, stage, out)?)
 }
 
 // Both: the new tuple into `out`, the undo list into `undo`; or neither.
@@ -421,10 +356,15 @@ pub fn press_with(
         work.old table.old }
 {
     let mut back = [0u64; MAX_OPERATIONS];
-    match update_running::carry_out(tuple, list, base, start, 0, count, work, table, &mut back) {
-        Err(Unfinished::NoRoom) => Err(Failed::NoRoom),
-        Err(Unfinished::Full(_, _, _)) => Err(Failed::NoRoom),
-        Err(Unfinished::Refused(refusal, i)) => Err(Failed::Refused(refusal, i)),
-        Ok(stage) => deliver_both(tuple, list, work, table, &back, stage, out, undo),
-    }
+    let stage = update_running::carry_out(
+        tuple, list, base, start, 0, count, work, table, &mut back,
+    )?;
+    Ok(deliver_both(
+        Sources { tuple, list, work },
+        table,
+        &back,
+        stage,
+        out,
+        undo,
+    )?)
 }

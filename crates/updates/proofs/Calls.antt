@@ -1,5 +1,5 @@
 -- From what a list came to, to what the calls show. Assumes nothing.
-use Rattle.std.specs.Prelude.{Some, None, Ok, Err, Option}
+use Rattle.std.specs.Prelude.{Some, None, Ok, Err, unwrap_or, Option as Either}
 use mathlib.Core.Path.{◌≡◌, refl, sym, ap, ◌∙◌, subst}
 use mathlib.Core.Bool.{true}
 use mathlib.Core.Logic.{◌⊎◌, inl, inr, ⊎_elim}
@@ -34,21 +34,20 @@ use Rattle.update_running.specs.Carrying.{Came, stops, makes, came_by, comes_to,
 use Rattle.msgpack_writing.specs.Put.{next}
 use Rattle.msgpack_writing.specs.Put as Writing
 use Rattle.msgpack_writing.proofs.Put.{wrote, through}
-use Rattle.update_delivering.specs.Delivering.{Rebased, update_by, undo_by, long_by, both_written, Lacks, TriesUpdate, TriesUndo, TriesPress, Tried, Pressed}
+use Rattle.update_delivering.specs.Delivering.{Rebased, call_failed, update_by, undo_by, long_by, both_written, Lacks, TriesUpdate, TriesUndo, TriesPress, Tried, Pressed}
 use Rattle.updates.specs.declared.Front.{Front}
-use Rattle.updates.specs.Telling.{Call, Fronts, came_of, call_of, Tells, Told, ToldOrLong, PressTells, PressToldOrLong, Refuses, answer_by, FewIn, press_answer_by}
+use Rattle.updates.specs.Telling.{Call, Fronts, came_of, Tells, Told, ToldOrLong, PressTells, PressToldOrLong, Refuses, answer_by, FewIn, press_answer_by}
+use Rattle.tuples.specs.declared.Answer.{Answer}
+use Rattle.update_delivering.specs.declared.Failed.{Failed}
 use Rattle.update_delivering.specs.declared.Failed.TheVariants.{NoRoom, Refused}
 use Rattle.update_delivering.specs.declared.Unwritten.TheVariants.{Moved, NoRoom as NoRoomYet, Refused as RefusedYet}
 
 -- ---- the front of a list
 
-pub front_good : (base : ℕ) (l : Bytes) {r : (Option (ℕ × ℕ))} → r ≡ front base l → {n e : ℕ} → r ≡ Some (n, e) → Fronts base l (record { count = n; start = e })
+pub front_is : (base : ℕ) (l : Bytes) {r : Either (ℕ × ℕ)} → r ≡ front base l → {f : ℕ × ℕ} → f ≡ unwrap_or r (65, 0) → Fronts base l (record { count = f.0; start = f.1 })
 unfolding rest_of
-front_good base l h {n} {e} q = let j = good base l h q in rw (le-leb n max_operations j.few, le-leb (length l) max_list j.short, sub-zero) (sym j.all)
-
-pub front_bad : (base : ℕ) (l : Bytes) {r : (Option (ℕ × ℕ))} → r ≡ front base l → r ≡ None → Fronts base l (record { count = 65; start = 0 })
-unfolding rest_of
-front_bad base l h q = sym (bad base l h q)
+front_is base l {r = None} h q = rw q (sym (bad base l h refl))
+front_is base l {r = Some (n, e)} h q = let j = good base l h refl in rw (q, le-leb n max_operations j.few, le-leb (length l) max_list j.short, sub-zero) (sym j.all)
 
 -- ---- the definitions' outcomes
 
@@ -97,6 +96,10 @@ module _ (t l : Bytes) (b : ℕ) where
 
 -- ---- what was tried, told
 
+abbrev pub told_by : Tried → Call
+told_by (Err u) = Err (call_failed u)
+told_by (Ok n) = Ok n
+
 module _ (t l : Bytes) (b : ℕ) (f : Front) (F : Fronts b l f) (out left : Bytes) where
   abbrev came : Came
   came = comes_to 0 (fields_of t) (rest_of b f.count 0 f.start l)
@@ -107,7 +110,7 @@ module _ (t l : Bytes) (b : ℕ) (f : Front) (F : Fronts b l f) (out left : Byte
   updates_as : delivered (update_by came) out ≡ delivered (update t l b) out
   updates_as = ap (λ (c : Came). delivered (update_by c) out) came-is ∙ ap (λ (o : Outcome). delivered o out) (sym (update-came t l b))
 
-  pub told-update : (r : Tried) (spare spare' work : Bytes) (table : List ℕ) → TriesUpdate r came l out left spare spare' work table b f.count 0 → Tells (call_of r) (update t l b) out left
+  pub told-update : (r : Tried) (spare spare' work : Bytes) (table : List ℕ) → TriesUpdate r came l out left spare spare' work table b f.count 0 → Tells (told_by r) (update t l b) out left
   told-update (Err NoRoomYet) spare spare' work table h = h.0
   told-update (Err (Moved n at i)) spare spare' work table h = h.0
   told-update (Err (RefusedYet k i)) spare spare' work table h = (h.0 ∙ updates_as, h.2)
@@ -122,10 +125,9 @@ module _ (t l : Bytes) (b : ℕ) (f : Front) (F : Fronts b l f) (out left : Byte
   undo_as : delivered (undo_by came taken) out ≡ delivered (undo t l b) out
   undo_as = ap (λ (o : Outcome). delivered o out) undo-is
 
-  pub told-undo : (r : Tried) (work : Bytes) (table : List ℕ) → TriesUndo r came taken out left work table → Tells (call_of r) (undo t l b) out left
-  told-undo (Err NoRoomYet) work table h = h.0
-  told-undo (Err (Moved n at i)) work table h = absurd h
-  told-undo (Err (RefusedYet k i)) work table h = (h.0 ∙ undo_as, h.1)
+  pub told-undo : (r : Call) (work : Bytes) (table : List ℕ) → TriesUndo r came taken out left work table → Tells r (undo t l b) out left
+  told-undo (Err NoRoom) work table h = h.0
+  told-undo (Err (Refused k i)) work table h = (h.0 ∙ undo_as, h.1)
   told-undo (Ok n) work table h = h ∙ undo_as
 
   -- in the longest arrays
@@ -135,11 +137,10 @@ module _ (t l : Bytes) (b : ℕ) (f : Front) (F : Fronts b l f) (out left : Byte
   long_as work table h k (inr (inl a)) = absurd (omega arith)
   long_as work table h k (inr (inr a)) = sym undo-is ∙ a ∙ ap long_by came-is
 
-  pub told-long : (r : Tried) (work : Bytes) (table : List ℕ) → table_room ≤ length table → length work ≡ work_room → TriesUndo r came taken out left work table
-      → ToldOrLong (call_of r) (undo t l b) (came_of t l b) out left
-  told-long (Err NoRoomYet) work table h k s = (s.0, long_as work table h k s.1)
-  told-long (Err (Moved n at i)) work table h k s = absurd s
-  told-long (Err (RefusedYet k' i)) work table h k s = (s.0 ∙ undo_as, s.1)
+  pub told-long : (r : Call) (work : Bytes) (table : List ℕ) → table_room ≤ length table → length work ≡ work_room → TriesUndo r came taken out left work table
+      → ToldOrLong r (undo t l b) (came_of t l b) out left
+  told-long (Err NoRoom) work table h k s = (s.0, long_as work table h k s.1)
+  told-long (Err (Refused k' i)) work table h k s = (s.0 ∙ undo_as, s.1)
   told-long (Ok n) work table h k s = s ∙ undo_as
 
   module _ (un undone : Bytes) where
@@ -159,6 +160,13 @@ module _ (t l : Bytes) (b : ℕ) (f : Front) (F : Fronts b l f) (out left : Byte
     told-long-press (Ok (n, m)) work table h k s = s ∙ press_as
 
 -- ---- answers
+
+module _ {r : Call} {e : Failed} (p : r ≡ Err e) where
+  pub few_in : {k : Refusal} {i : ℕ} → e ≡ Refused k i → FewIn r → i ≤ max_operations
+  few_in q h = subst FewIn (p ∙ ap (λ (x : Failed). Err x) q) h
+
+  pub answer_failed : (t l : Bytes) {f : Failed} → e ≡ f → {a : Answer} → a ≡ answer_by (Err f) t l → a ≡ answer_by r t l
+  answer_failed t l q h = h ∙ ap (λ (x : Call). answer_by x t l) (sym (p ∙ ap (λ (x : Failed). Err x) q))
 
 pub told-few : (r : Call) (o : Outcome) (out left : Bytes) → Told r o out left → FewIn r
 told-few (Err NoRoom) o out left h = tt

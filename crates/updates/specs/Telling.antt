@@ -12,10 +12,9 @@ use Rattle.tuples.specs.declared.PressAnswer.{PressAnswer}
 use Rattle.tuples.specs.declared.Refusal.TheVariants.{TooLarge}
 use Rattle.update_answers.specs.Seen.{refusal_of, answer_at}
 use Rattle.update_running.specs.Carrying.{Came, comes_to, rest_of}
-use Rattle.update_delivering.specs.Delivering.{long_by, written, both_written, Tried, Pressed}
+use Rattle.update_delivering.specs.Delivering.{long_by, written, both_written, Pressed}
 use Rattle.updates.specs.declared.Front.{Front}
 use Rattle.update_delivering.specs.declared.Failed.TheVariants.{NoRoom, Refused}
-use Rattle.update_delivering.specs.declared.Unwritten.TheVariants.{Moved, NoRoom as NoRoomYet, Refused as RefusedYet}
 use Rattle.update_delivering.specs.declared.Failed.{Failed}
 
 -- the length written, or why nothing is
@@ -29,12 +28,6 @@ Fronts base l f = rest_of base f.count 0 f.start l ≡ operations_of base l
 -- what a list comes to on a tuple
 abbrev pub came_of : Bytes → Bytes → ℕ → Came
 came_of t l base = comes_to 0 (fields_of t) (operations_of base l)
-
-abbrev pub call_of : Tried → Call
-call_of (Err NoRoomYet) = Err NoRoom
-call_of (Err (Moved n at i)) = Err NoRoom
-call_of (Err (RefusedYet k i)) = Err (Refused k i)
-call_of (Ok n) = Ok n
 
 -- what is due is told; or nothing is written, and more room is needed
 abbrev pub Tells : Call → Outcome → Bytes → Bytes → Type 0

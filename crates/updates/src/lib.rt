@@ -9,11 +9,11 @@ ghost use Rattle.tuples.specs.Limits.{max_tuple};
 ghost use Rattle.update_answers.specs.Seen.{seen, press_seen};
 ghost use Rattle.update_running.specs.Carrying.{table_room};
 ghost use Rattle.update_delivering.specs.Delivering.{long_by};
-ghost use Rattle.updates.specs.Telling.{Fronts, came_of, call_of, Tells, Told, ToldOrLong, PressToldOrLong, Refuses, answer_by, FewIn, press_answer_by};
+ghost use Rattle.updates.specs.Telling.{Fronts, came_of, Tells, Told, ToldOrLong, PressToldOrLong, Refuses, answer_by, FewIn, press_answer_by};
 
 use msgpack_values::NO_PLACE;
 use tuples::{Answer, MAX_OPERATIONS, MAX_TUPLE, PressAnswer, Refusal};
-use update_delivering::{Failed, Pressed, Tried, Unwritten};
+use update_delivering::{Failed, Pressed, Unwritten};
 use update_running::{TABLE_ROOM, WORK_ROOM};
 
 // Where a list has at most so many bytes, the short arrays are tried.
@@ -31,30 +31,14 @@ struct Front {
     start: usize,
 }
 
-// What a call comes to: the arrays have no room; a refusal; the length written.
+// The length written, or why nothing is.
 type Call = Result<usize, Failed>;
 
 fn front_of(list: &[u8], base: u64) -> Front
     ensures { Fronts base list.now result }
 {
-    match update_operations::front_of(list, base) {
-        Some((count, start)) => Front { count, start },
-        None => Front {
-            count: MAX_OPERATIONS + 1,
-            start: 0,
-        },
-    }
-}
-
-fn call_of(tried: Tried) -> Call
-    ensures { result ≡ call_of tried }
-{
-    match tried {
-        Err(Unwritten::NoRoom) => Err(Failed::NoRoom),
-        Err(Unwritten::Moved(_, _, _)) => Err(Failed::NoRoom),
-        Err(Unwritten::Refused(refusal, i)) => Err(Failed::Refused(refusal, i)),
-        Ok(length) => Ok(length),
-    }
+    let (count, start) = update_operations::front_of(list, base).unwrap_or((MAX_OPERATIONS + 1, 0));
+    Front { count, start }
 }
 
 // ---- the update call
@@ -71,8 +55,8 @@ fn update_in(
     requires { Fronts base list.now front }
     ensures { Tells result (update tuple.now list.now base) out.old out.new }
 {
-    let mut none = [0u8; 1];
-    call_of(update_delivering::update_with(
+    let mut none = [0u8; 0];
+    Ok(update_delivering::update_with(
         tuple,
         list,
         base,
@@ -81,9 +65,9 @@ fn update_in(
         front.count,
         table,
         work,
-        &mut none[..0],
+        &mut none,
         out,
-    ))
+    )?)
 }
 
 // Wherever the work array is full, the fields up to there become the tuple, and the run goes on from it.
@@ -106,8 +90,8 @@ fn update_long(
     let mut other = [0u8; MAX_TUPLE];
     let mut length = msgpack_writing::write_bytes(&mut one, 0, tuple);
     let mut at = front.start;
-    let mut i: usize = 0;
-    loop {
+    let mut i = 0;
+    'turns: loop {
         match update_delivering::update_with(
             &one[..length],
             list,
@@ -120,20 +104,14 @@ fn update_long(
             &mut other,
             out,
         ) {
-            Err(Unwritten::NoRoom) => {
-                return Err(Failed::NoRoom);
-            }
-            Err(Unwritten::Refused(refusal, j)) => {
-                return Err(Failed::Refused(refusal, j));
-            }
-            Ok(n) => {
-                return Ok(n);
-            }
             Err(Unwritten::Moved(n, place, j)) => {
                 length = msgpack_writing::write_bytes(&mut one, 0, &other[..n]);
                 at = place;
                 i = j;
             }
+            Err(Unwritten::NoRoom) => return Err(Failed::NoRoom),
+            Err(Unwritten::Refused(refusal, j)) => return Err(Failed::Refused(refusal, j)),
+            Ok(n) => return Ok(n),
         }
     }
 }
@@ -145,9 +123,9 @@ fn update_more(tuple: &[u8], list: &[u8], base: u64, front: Front, out: &mut [u8
     let mut table = [0u32; TABLE_ROOM];
     let mut work = [0u8; MAX_TUPLE];
     match update_in(tuple, list, base, front, &mut table, &mut work, out) {
+        Err(Failed::NoRoom) => update_long(tuple, list, base, front, &mut table, &mut work, out),
         Err(Failed::Refused(refusal, i)) => Err(Failed::Refused(refusal, i)),
         Ok(length) => Ok(length),
-        Err(Failed::NoRoom) => update_long(tuple, list, base, front, &mut table, &mut work, out),
     }
 }
 
@@ -162,9 +140,9 @@ fn updated(tuple: &[u8], list: &[u8], base: u64, out: &mut [u8]) -> Call
     let mut table = [0u32; SHORT_TABLE];
     let mut work = [0u8; SHORT_WORK];
     match update_in(tuple, list, base, front, &mut table, &mut work, out) {
+        Err(Failed::NoRoom) => update_more(tuple, list, base, front, out),
         Err(Failed::Refused(refusal, i)) => Err(Failed::Refused(refusal, i)),
         Ok(length) => Ok(length),
-        Err(Failed::NoRoom) => update_more(tuple, list, base, front, out),
     }
 }
 
@@ -198,30 +176,6 @@ pub fn update(tuple: &[u8], list: &[u8], index_base: u64, out: &mut [u8]) -> Ans
 
 // ---- the undo call
 
-fn undo_in(
-    tuple: &[u8],
-    list: &[u8],
-    base: u64,
-    front: Front,
-    table: &mut [u32],
-    work: &mut [u8],
-    out: &mut [u8],
-) -> Call
-    requires { Fronts base list.now front }
-    ensures { Tells result (undo tuple.now list.now base) out.old out.new }
-{
-    call_of(update_delivering::undo_with(
-        tuple,
-        list,
-        base,
-        front.start,
-        front.count,
-        table,
-        work,
-        out,
-    ))
-}
-
 // In the longest work array: where it is full, the undo list is too long.
 fn undo_long(
     tuple: &[u8],
@@ -235,7 +189,7 @@ fn undo_long(
     ensures { ToldOrLong result (undo tuple.now list.now base) (came_of tuple.now list.now base) out.old out.new }
 {
     let mut work = [0u8; WORK_ROOM];
-    call_of(update_delivering::undo_with(
+    update_delivering::undo_with(
         tuple,
         list,
         base,
@@ -244,7 +198,7 @@ fn undo_long(
         table,
         &mut work,
         out,
-    ))
+    )
 }
 
 fn undo_more(tuple: &[u8], list: &[u8], base: u64, front: Front, out: &mut [u8]) -> Call
@@ -253,10 +207,19 @@ fn undo_more(tuple: &[u8], list: &[u8], base: u64, front: Front, out: &mut [u8])
 {
     let mut table = [0u32; TABLE_ROOM];
     let mut work = [0u8; MAX_TUPLE];
-    match undo_in(tuple, list, base, front, &mut table, &mut work, out) {
+    match update_delivering::undo_with(
+        tuple,
+        list,
+        base,
+        front.start,
+        front.count,
+        &mut table,
+        &mut work,
+        out,
+    ) {
+        Err(Failed::NoRoom) => undo_long(tuple, list, base, front, &mut table, out),
         Err(Failed::Refused(refusal, i)) => Err(Failed::Refused(refusal, i)),
         Ok(length) => Ok(length),
-        Err(Failed::NoRoom) => undo_long(tuple, list, base, front, &mut table, out),
     }
 }
 
@@ -270,10 +233,19 @@ fn undone(tuple: &[u8], list: &[u8], base: u64, out: &mut [u8]) -> Call
     }
     let mut table = [0u32; SHORT_TABLE];
     let mut work = [0u8; SHORT_WORK];
-    match undo_in(tuple, list, base, front, &mut table, &mut work, out) {
+    match update_delivering::undo_with(
+        tuple,
+        list,
+        base,
+        front.start,
+        front.count,
+        &mut table,
+        &mut work,
+        out,
+    ) {
+        Err(Failed::NoRoom) => undo_more(tuple, list, base, front, out),
         Err(Failed::Refused(refusal, i)) => Err(Failed::Refused(refusal, i)),
         Ok(length) => Ok(length),
-        Err(Failed::NoRoom) => undo_more(tuple, list, base, front, out),
     }
 }
 
@@ -284,8 +256,7 @@ fn judged(tuple: &[u8], list: &[u8], base: u64) -> Call
     let mut out = [0u8; MAX_TUPLE];
     match updated(tuple, list, base, &mut out) {
         Err(Failed::Refused(refusal, i)) => Err(Failed::Refused(refusal, i)),
-        Ok(_) => Err(Failed::Refused(Refusal::LongUndo, 0)),
-        Err(Failed::NoRoom) => Err(Failed::Refused(Refusal::LongUndo, 0)),
+        _ => Err(Failed::Refused(Refusal::LongUndo, 0)),
     }
 }
 
@@ -294,9 +265,13 @@ pub fn undo(tuple: &[u8], list: &[u8], index_base: u64, out: &mut [u8]) -> Answe
     ensures { seen result out.new ≡ undo_call tuple.now list.now index_base out.old }
 {
     match undone(tuple, list, index_base, out) {
-        Ok(length) => answer_of(Ok(length), tuple, list),
-        Err(Failed::Refused(refusal, i)) => answer_of(Err(Failed::Refused(refusal, i)), tuple, list),
         Err(Failed::NoRoom) => answer_of(judged(tuple, list, index_base), tuple, list),
+        Err(Failed::Refused(refusal, i)) => answer_of(
+            Err(Failed::Refused(refusal, i)),
+            tuple,
+            list,
+        ),
+        Ok(length) => answer_of(Ok(length), tuple, list),
     }
 }
 
@@ -355,9 +330,9 @@ fn press_more(
         out,
         back,
     ) {
-        Err(Failed::Refused(refusal, i)) => Err(Failed::Refused(refusal, i)),
-        Ok((length, undo_length)) => Ok((length, undo_length)),
         Err(Failed::NoRoom) => press_long(tuple, list, base, front, &mut table, out, back),
+        Err(Failed::Refused(refusal, i)) => Err(Failed::Refused(refusal, i)),
+        Ok(lengths) => Ok(lengths),
     }
 }
 
@@ -383,22 +358,21 @@ fn pressed(tuple: &[u8], list: &[u8], base: u64, out: &mut [u8], back: &mut [u8]
         out,
         back,
     ) {
-        Err(Failed::Refused(refusal, i)) => Err(Failed::Refused(refusal, i)),
-        Ok((length, undo_length)) => Ok((length, undo_length)),
         Err(Failed::NoRoom) => press_more(tuple, list, base, front, out, back),
+        Err(Failed::Refused(refusal, i)) => Err(Failed::Refused(refusal, i)),
+        Ok(lengths) => Ok(lengths),
     }
 }
 
 fn press_answer(answer: Answer, undo_length: usize) -> PressAnswer
     ensures { result ≡ press_answer_by answer undo_length }
 {
-    let place = answer.place;
     PressAnswer {
         number: answer.number,
         operation: answer.operation,
         length: answer.length,
         undo_length,
-        place,
+        place: answer.place,
     }
 }
 
@@ -414,14 +388,15 @@ pub fn press(
         ≡ press_call tuple.now list.now index_base out.old back.old }
 {
     match pressed(tuple, list, index_base, out, back) {
-        Ok((length, undo_length)) => press_answer(
-            answer_of(Ok(length), tuple, list),
-            undo_length,
-        ),
-        Err(Failed::Refused(refusal, i)) => press_answer(
-            answer_of(Err(Failed::Refused(refusal, i)), tuple, list),
+        Ok((length, undo_length)) => {
+            press_answer(answer_of(Ok(length), tuple, list), undo_length)
+        }
+        Err(Failed::NoRoom) => press_answer(
+            answer_of(judged(tuple, list, index_base), tuple, list),
             0,
         ),
-        Err(Failed::NoRoom) => press_answer(answer_of(judged(tuple, list, index_base), tuple, list), 0),
+        Err(Failed::Refused(refusal, i)) => {
+            press_answer(answer_of(Err(Failed::Refused(refusal, i)), tuple, list), 0)
+        }
     }
 }

@@ -6,20 +6,9 @@ use Rattle.update_delivering.proofs.Delivered.{too_short_lem, all-written}
 use Rattle.update_delivering.proofs.Tuples.{few_bytes}
 use Rattle.update_delivering.proofs.deliver.Goals as goal
 
-pub tuple_length-length-requires : goal.tuple_length-length-requires
-tuple_length-length-requires c = let p = c.requires in (omega (arith, p.few), omega (arith, few_bytes p))
-
-pub write_tuple-requires : goal.write_tuple-requires
-write_tuple-requires c = let p = c.requires in (p, omega (arith, p.long, c.tuple_length-length.ensures))
-
 pub returns-then-out-length : goal.returns-then-out-length
-returns-then-out-length c = (
-  too_short_lem (plain (shown c.args.tuple.now c.args.list.now c.args.work.now c.args.table.now c.args.stage)) c.args.out.now
-      (omega (arith, c.requires.long, c.tuple_length-length.ensures)),
-  omega arith,
-)
+returns-then-out-length c = too_short_lem _ c.args.out.now (omega (arith, c.requires.long, c.tuple_length-length.ensures))
 
 pub returns : goal.returns
 returns c =
-    all-written (plain (shown c.args.tuple.now c.args.list.now c.args.work.now c.args.table.now c.args.stage)) c.args.out.now
-    (c.tuple_length-length.ensures ∙ c.requires.long) (omega (arith, c.requires.long, c.tuple_length-length.ensures)) c.write_tuple.ensures
+    all-written _ c.args.out.now (c.tuple_length-length.ensures ∙ c.requires.long) (omega (arith, c.requires.long, c.tuple_length-length.ensures)) c.write_tuple.ensures

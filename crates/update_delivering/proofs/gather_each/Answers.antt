@@ -1,32 +1,28 @@
--- The fields of the entries before i are written.
-use native.Mathlib.Omega.{arith}
-use lib.ListN.{drop}
+-- The entries before those that are left are gathered.
+use Prim.Native.Nat.{◌+◌}
+use lib.Dec.{eqb}
+use Rattle.std.proofs.Common.{rules}
+use Rattle.std.proofs.lemmas.List.Sorted.{answers_always}
 use Rattle.msgpack_writing.proofs.Put.{written}
-use Rattle.update_delivering.proofs.Runs.{reach-le, further, gathered, begun, ended}
+use Rattle.update_places.specs.Place.{start_of, length_of}
+use Rattle.update_delivering.proofs.Runs.{Beside, begun, side_gathers, side_gathered, ended}
+use Rattle.update_delivering.proofs.gather_each.Goals.{In-Some}
 use Rattle.update_delivering.proofs.gather_each.Goals as goal
 
-pub overflow_sub-run : goal.overflow_sub-run
-overflow_sub-run c =
-    omega (arith, reach-le c.start_of-from.result (drop c.loop-i.i c.args.entries.now), c.run_from-run.ensures.0)
+pub loop-side-init : goal.loop-side-init
+loop-side-init c = rw (c.into_iter-side-iterator.ensures.into_iter_gives, c.chunk_by-side-items.ensures.rest) (begun c.requires)
 
-pub loop-i-smaller : goal.loop-i-smaller
-loop-i-smaller c =
-    let p = c.requires in
-    let f = further p c.loop-i.i (omega arith) _ _ _ c.start_of-from.ensures.0 c.run_from-run.ensures.0 c.run_from-run.ensures.1 in
-    omega (arith, f.0, f.1)
+-- each side lies side by side: what the closure answers of two neighbours
+beside : (c : In-Some) → Beside c.loop-side.side-iterator.rest.now c.in-Some.side.now c.next.new.self.rest.now
+beside c =
+    let s = c.in-Some.ensures.steps in
+    record { is = s.0; adjacent = (s.2 (λ p q. eqb (start_of p + length_of p) (start_of q)) (answers_always _ _ _ (λ f a r g h. search rules))).1.0 }
 
-pub loop-i-preserved : goal.loop-i-preserved
-loop-i-preserved c =
-    let p = c.requires in (
-      (further p c.loop-i.i (omega arith) _ _ _ c.start_of-from.ensures.0 c.run_from-run.ensures.0 c.run_from-run.ensures.1).1,
-      gathered p c.loop-i.i (omega arith) _ _ _ c.start_of-from.ensures.0 c.run_from-run.ensures.0 c.run_from-run.ensures.1 c.loop-i.invariant.1 c.copy_from-to.ensures,
-    )
+pub gather_side-to-requires : goal.gather_side-to-requires
+gather_side-to-requires c = side_gathers c.requires c.loop-side.invariant (beside (goal.at.gather_side-to-requires c).In-Some)
+
+pub loop-side-preserved : goal.loop-side-preserved
+loop-side-preserved c = side_gathered c.requires c.loop-side.invariant (beside (goal.at.loop-side-preserved c).In-Some) c.gather_side-to.ensures
 
 pub returns : goal.returns
-returns c = written (ended c.requires c.loop-i.i (omega arith) c.loop-i.invariant.1)
-
-pub loop-i-init : goal.loop-i-init
-loop-i-init c = (omega arith, begun c.requires)
-
-pub run_from-run-requires : goal.run_from-run-requires
-run_from-run-requires c = (c.loop-i.invariant.0, c.requires.few, omega (arith, c.start_of-from.ensures.1))
+returns c = written (ended c.requires c.loop-side.invariant c.in-None.ensures.steps.0)

@@ -1,33 +1,21 @@
-use mathlib.Core.Path.{refl}
-use mathlib.Core.Logic.{inl, inr}
-use Rattle.update_delivering.proofs.Tries.{lacks, undo-refused, stalled_long, carried_undoes, tries_undo}
+use Rattle.msgpack_first_bytes.proofs.Logic.{error_left}
+use Rattle.update_delivering.proofs.Tries.{carried_undoes, undo-fails, undo-refuses, undo-writes}
 use Rattle.update_delivering.proofs.undo_with.Goals as goal
 
 pub deliver_undo-requires : goal.deliver_undo-requires
-deliver_undo-requires c =
-    let K = rw c.in-Ok.is at c.carry_out.ensures in
-    carried_undoes K c.carry_out.auto.back
+deliver_undo-requires c = carried_undoes c.in_ok-stage.ensures c.carry_out.auto.back
 
-pub returns-in-NoRoom : goal.returns-in-NoRoom
-returns-in-NoRoom c =
-    let a = c.args in (
-      refl,
-      inl (lacks a.table.now a.work.now c.carry_out.new.table c.carry_out.new.work c.carry_out.auto.table c.carry_out.auto.work
-          (rw c.in-NoRoom.is at c.carry_out.ensures)),
-    )
-
-pub returns-in-Full : goal.returns-in-Full
-returns-in-Full c =
+pub returns-in_err-stage : goal.returns-in_err-stage
+returns-in_err-stage c =
     let a = c.args in
-    (refl, inr (stalled_long (rw c.in-Full.is at c.carry_out.ensures) a.work.now c.carry_out.auto.work))
+    rw (error_left _ _ c.from_residual.ensures.1) (undo-fails _ _ _ _ _ _ _ _ _ _ a.table.now a.work.now c.carry_out.auto.table c.carry_out.auto.work c.in_err-stage.field-0.0 c.in_err-stage.ensures a.out.now)
 
-pub returns-in-Refused : goal.returns-in-Refused
-returns-in-Refused c =
+pub returns-in_err-deliver_undo : goal.returns-in_err-deliver_undo
+returns-in_err-deliver_undo c =
     let a = c.args in
-    let e = rw c.in-Refused.is at c.carry_out.ensures in
-    (undo-refused _ _ _ _ a.out.now e.0, e.1)
+    rw (error_left _ _ c.from_residual-in_err-deliver_undo.ensures.1) (undo-refuses c.in_ok-stage.ensures a.work.now a.out.now _ a.table.now c.carry_out.auto.back _ (rw c.in_err-deliver_undo.was at c.deliver_undo.ensures))
 
-pub returns-in-Ok : goal.returns-in-Ok
-returns-in-Ok c =
+pub returns : goal.returns
+returns c =
     let a = c.args in
-    tries_undo (rw c.in-Ok.is at c.carry_out.ensures) c.deliver_undo.result a.work.now a.out.now _ a.table.now c.carry_out.auto.back c.deliver_undo.ensures
+    undo-writes c.in_ok-stage.ensures a.work.now a.out.now _ a.table.now c.carry_out.auto.back (rw c.in_ok-deliver_undo.was at c.deliver_undo.ensures)

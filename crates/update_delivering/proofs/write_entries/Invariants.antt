@@ -1,11 +1,7 @@
--- The entries from i on are written, the last first.
-use Prim.Native.Nat.{◌≤◌}
-use Rattle.msgpack_writing.proofs.Put.{Wrote}
-use Rattle.update_delivering.proofs.Undos.{Rear}
+-- The entries after those that are left are written, the last first.
+use Rattle.update_delivering.proofs.Undos.{Written}
 use Rattle.update_delivering.proofs.write_entries.Given as goal
 
-abbrev pub invariant-loop-i : goal.invariant-loop-i
-invariant-loop-i l = (l.i ≤ l.laid) × Wrote l.initial.out l.at (Rear l.tuple l.list l.work l.back l.laid l.i) l.out l.to
-
-abbrev pub decreases-loop-i : goal.decreases-loop-i
-decreases-loop-i l = l.i
+abbrev pub invariant-loop-entry : goal.invariant-loop-entry
+invariant-loop-entry l =
+    Written l.sources.tuple.now l.sources.list.now l.sources.work.now l.entries l.initial.out l.at l.entry-iterator.iter.rest.now l.out l.to

@@ -1,26 +1,23 @@
 -- By what the call came to.
-use mathlib.Core.Path.{sym, ap, ◌∙◌, subst}
+use mathlib.Core.Path.{ap, ◌∙◌}
 use native.Mathlib.Omega.{arith}
 use Rattle.tuples.specs.declared.Answer.{Answer}
 use Rattle.tuples.specs.Call.{spoiled_in}
 use Rattle.update_answers.specs.Seen.{answer_at}
-use Rattle.updates.specs.Telling.{Call, FewIn, answer_by}
+use Rattle.updates.proofs.Calls.{few_in, answer_failed}
 use Rattle.updates.proofs.answer_of.Goals as goal
 
 pub overflow_cast-i : goal.overflow_cast-i
-overflow_cast-i c =
-    let f = subst FewIn c.in-Refused.is c.requires in
-    omega arith
+overflow_cast-i c = omega (arith, few_in c.in-Err-Refused.is (rw c.in-Err-Refused.is at c.in-Err-Refused.field-0-is) c.requires)
 
-pub returns-in-Ok : goal.returns-in-Ok
-returns-in-Ok c = rw c.in-Ok.is
-
-pub returns-in-Refused : goal.returns-in-Refused
-returns-in-Refused c =
+pub returns-in-Err-Refused : goal.returns-in-Err-Refused
+returns-in-Err-Refused c =
     let a = c.args in
-    c.with_place.ensures ∙ ap (λ (r : Answer). answer_at (spoiled_in r.number a.tuple.now a.list.now) r) c.refused.ensures ∙ ap (λ (x : Call). answer_by x a.tuple.now a.list.now) (sym c.in-Refused.is)
+    let n = c.in-Err-Refused in
+    answer_failed n.is a.tuple.now a.list.now (rw n.is at n.field-0-is) (c.with_place.ensures ∙ ap (λ (r : Answer). answer_at (spoiled_in r.number a.tuple.now a.list.now) r) c.refused.ensures)
 
-pub returns-in-NoRoom : goal.returns-in-NoRoom
-returns-in-NoRoom c =
+pub returns-in-Err-NoRoom : goal.returns-in-Err-NoRoom
+returns-in-Err-NoRoom c =
     let a = c.args in
-    c.refused-in-NoRoom.ensures ∙ ap (λ (x : Call). answer_by x a.tuple.now a.list.now) (sym c.in-NoRoom.is)
+    let n = c.in-Err-NoRoom in
+    answer_failed n.is a.tuple.now a.list.now (rw n.is at n.field-0-is) c.refused-in-Err-NoRoom.ensures

@@ -10,26 +10,18 @@ unfolding undo_call
 returns-in-Ok c =
     let a = c.args in
     let n = c.in-Ok in
-    rw c.answer_of.ensures (answers a.tuple.now a.list.now (Ok n.length) (undo a.tuple.now a.list.now a.index_base) a.out.now _ (rw n.is at c.undone.ensures))
+    rw c.answer_of-in-Ok.ensures (answers a.tuple.now a.list.now (Ok n.length) (undo a.tuple.now a.list.now a.index_base) a.out.now _ n.ensures)
 
-pub returns-in-Refused : goal.returns-in-Refused
+pub returns-in-Err-Refused : goal.returns-in-Err-Refused
 unfolding undo_call
-returns-in-Refused c =
+returns-in-Err-Refused c =
     let a = c.args in
-    let n = c.in-Refused in
-    rw c.answer_of-in-Refused.ensures (answers a.tuple.now a.list.now (Err (Refused n.refusal n.i)) (undo a.tuple.now a.list.now a.index_base) a.out.now _ (rw n.is at c.undone.ensures))
+    let n = c.in-Err-Refused in
+    rw c.answer_of-in-Err-Refused.ensures (answers a.tuple.now a.list.now (Err (Refused n.refusal n.i)) (undo a.tuple.now a.list.now a.index_base) a.out.now _ (rw n.field-0-is at n.ensures))
 
-pub returns-in-NoRoom : goal.returns-in-NoRoom
+pub returns-in-Err-NoRoom : goal.returns-in-Err-NoRoom
 unfolding undo_call
-returns-in-NoRoom c =
+returns-in-Err-NoRoom c =
     let a = c.args in
-    let n = rw c.in-NoRoom.is at c.undone.ensures in
-    rw c.answer_of-in-NoRoom.ensures (answers-long a.tuple.now a.list.now a.index_base c.judged.result (undo a.tuple.now a.list.now a.index_base) a.out.now _ n.0 n.1 c.judged.ensures)
-
-pub answer_of-requires-in-Refused : goal.answer_of-requires-in-Refused
-answer_of-requires-in-Refused c = let n = rw c.in-Refused.is at c.undone.ensures in n.1
-
-pub answer_of-requires-in-NoRoom : goal.answer_of-requires-in-NoRoom
-answer_of-requires-in-NoRoom c =
-    let a = c.args in
-    refuses_few a.tuple.now a.list.now a.index_base c.judged.result _ c.judged.ensures
+    let n = rw c.in-Err-NoRoom.field-0-is at c.in-Err-NoRoom.ensures in
+    rw c.answer_of.ensures (answers-long a.tuple.now a.list.now a.index_base c.judged.result (undo a.tuple.now a.list.now a.index_base) a.out.now _ n.0 n.1 c.judged.ensures)

@@ -1,13 +1,14 @@
--- Short arrays first.
+-- Shorter arrays first.
+use Rattle.updates.proofs.Calls.{told-undo}
 use Rattle.updates.proofs.undone.Goals as goal
 
-pub returns-in-NoRoom : goal.returns-in-NoRoom
-returns-in-NoRoom c =
-    let n = rw c.in-NoRoom.is at c.undo_in.ensures in
-    rw n at c.undo_more-in-NoRoom.ensures
-
-pub returns-in-Refused : goal.returns-in-Refused
-returns-in-Refused c = rw c.in-Refused.is at c.undo_in.ensures
+pub returns-in-Err-Refused : goal.returns-in-Err-Refused
+returns-in-Err-Refused c =
+    let a = c.args in
+    let n = c.in-Err-Refused in
+    rw (n.is, n.field-0-is) at (told-undo a.tuple.now a.list.now a.base c.front_of-front.result c.front_of-front.ensures a.out.now _ c.undo_with.result _ _ c.undo_with.ensures)
 
 pub returns-in-Ok : goal.returns-in-Ok
-returns-in-Ok c = rw c.in-Ok.is at c.undo_in.ensures
+returns-in-Ok c =
+    let a = c.args in
+    rw c.in-Ok.is at (told-undo a.tuple.now a.list.now a.base c.front_of-front.result c.front_of-front.ensures a.out.now _ c.undo_with.result _ _ c.undo_with.ensures)

@@ -3,13 +3,8 @@ use mathlib.Core.Path.{ap, ◌∙◌}
 use Rattle.tuples.specs.Call.{update, update_call}
 use Rattle.tuples.specs.declared.Answer.{Answer}
 use Rattle.update_answers.specs.Seen.{seen}
-use Rattle.updates.proofs.Calls.{told-few, answers}
+use Rattle.updates.proofs.Calls.{answers}
 use Rattle.updates.proofs.update.Goals as goal
-
-pub answer_of-requires : goal.answer_of-requires
-answer_of-requires c =
-    let a = c.args in
-    told-few c.updated.result (update a.tuple.now a.list.now a.index_base) a.out.now c.updated.new.out c.updated.ensures
 
 pub returns : goal.returns
 unfolding update_call

@@ -1,19 +1,15 @@
-use mathlib.Core.Path.{sym, subst}
-use Rattle.tuples.specs.Call.{update}
-use Rattle.updates.specs.Telling.{Call, Tells}
+-- What was tried, told.
+use Rattle.std.specs.Prelude.{Ok, Err}
+use Rattle.msgpack_first_bytes.proofs.Logic.{error_left}
 use Rattle.updates.proofs.Calls.{told-update}
 use Rattle.updates.proofs.update_in.Goals as goal
 
--- src/lib.rt:91:9
--- src/lib.rt:91:9
--- src/lib.rt:82:13
--- src/lib.rt:82:5
--- src/lib.rt:69:1
--- src/lib.rt:69:1
--- src/lib.rt:69:1
--- src/lib.rt:69:1
+pub returns-in_err-update_with : goal.returns-in_err-update_with
+returns-in_err-update_with c =
+    let a = c.args in
+    rw (error_left _ _ c.from_residual.ensures.1) (told-update a.tuple.now a.list.now a.base a.front c.requires a.out.now _ (Err c.in_err-update_with.field-0.0) _ _ a.work.now a.table.now (rw c.in_err-update_with.was at c.update_with.ensures))
+
 pub returns : goal.returns
 returns c =
     let a = c.args in
-    subst (λ (x : Call). Tells x (update a.tuple.now a.list.now a.base) a.out.now c.update_with.new.out) (sym c.call_of.ensures)
-    (told-update a.tuple.now a.list.now a.base a.front c.requires a.out.now c.update_with.new.out c.update_with.result _ c.update_with.new.spare a.work.now a.table.now c.update_with.ensures)
+    told-update a.tuple.now a.list.now a.base a.front c.requires a.out.now _ (Ok c.in_ok-update_with.field-0) _ _ a.work.now a.table.now (rw c.in_ok-update_with.was at c.update_with.ensures)

@@ -13,8 +13,8 @@ returns-then-tuple-gt-MAX_TUPLE c =
     let a = c.args in
     long-tuple a.tuple.now a.list.now a.base a.out.now (omega arith)
 
-pub loop-refusal-init : goal.loop-refusal-init
-loop-refusal-init c =
+pub turns-init : goal.turns-init
+turns-init c =
     let a = c.args in
     let f = first_turn a.tuple.now a.list.now a.base a.front c.requires.0 _ c.write_bytes-length.ensures (omega arith) in
     (f.0, (refl, (refl, (f.1.0, (f.1.1, (refl, (c.requires.1, c.requires.2)))))))
@@ -25,54 +25,36 @@ slice_bounds-one-end c = omega arith
 pub slice_bounds-update_with-end : goal.slice_bounds-update_with-end
 slice_bounds-update_with-end c = sym (length-take-le _ _ (omega arith))
 
-pub slice_bounds-update_with-end-in-loop-refusal : goal.slice_bounds-update_with-end-in-loop-refusal
-slice_bounds-update_with-end-in-loop-refusal c = sym c.loop-refusal.invariant.1.1.1.1.1.0
-
-pub returns-in-NoRoom : goal.returns-in-NoRoom
-returns-in-NoRoom c =
-    let g = c.loop-refusal in
-    let h = rw c.in-NoRoom.is at c.update_with.ensures in
+pub returns-in-Err-NoRoom : goal.returns-in-Err-NoRoom
+returns-in-Err-NoRoom c =
+    let g = c.turns in
+    let h = rw c.in-Err-NoRoom.field-0-is at c.in-Err-NoRoom.ensures in
     no_room g.table g.work g.other h.2 g.invariant.1.1.1.1.1.1.0 g.invariant.1.1.1.1.1.1.1 g.invariant.1.1.1.1.1.0
 
-pub returns-in-Refused : goal.returns-in-Refused
-returns-in-Refused c =
-    let g = c.loop-refusal in
+pub returns-in-Err-Refused : goal.returns-in-Err-Refused
+returns-in-Err-Refused c =
+    let g = c.turns in
     let a = c.args in
-    let h = rw c.in-Refused.is at c.update_with.ensures in
+    let h = rw c.in-Err-Refused.field-0-is at c.in-Err-Refused.ensures in
     (h.0 ∙ told_as a.tuple.now a.list.now a.base g.invariant.0 g.invariant.1.0, h.2)
 
 pub returns-in-Ok : goal.returns-in-Ok
 returns-in-Ok c =
-    let g = c.loop-refusal in
+    let g = c.turns in
     let a = c.args in
-    let h = rw c.in-Ok.is at c.update_with.ensures in
+    let h = c.in-Ok.ensures in
     h.0 ∙ told_as a.tuple.now a.list.now a.base g.invariant.0 g.invariant.1.0
 
-pub slice_bounds-write_bytes-end-in-Moved : goal.slice_bounds-write_bytes-end-in-Moved
-slice_bounds-write_bytes-end-in-Moved c = sym c.loop-refusal.invariant.1.1.1.1.0
-
-pub slice_bounds-other-end : goal.slice_bounds-other-end
-slice_bounds-other-end c =
-    let g = c.loop-refusal in
-    let R = rw c.in-Moved.is at c.update_with.ensures in
-    (rebased_room R.1).0
-
-pub slice_bounds-write_bytes-end-in-Moved-2 : goal.slice_bounds-write_bytes-end-in-Moved-2
-slice_bounds-write_bytes-end-in-Moved-2 c =
-    let g = c.loop-refusal in
-    let R = rw c.in-Moved.is at c.update_with.ensures in
-    sym (length-take-le _ _ (rebased_room R.1).0)
-
-pub loop-refusal-smaller : goal.loop-refusal-smaller
-loop-refusal-smaller c =
-    let g = c.loop-refusal in
-    let R = rw c.in-Moved.is at c.update_with.ensures in
+pub turns-smaller : goal.turns-smaller
+turns-smaller c =
+    let g = c.turns in
+    let R = rw c.in-Err-Moved.field-0-is at c.in-Err-Moved.ensures in
     let e = rebased_on R.1 g.invariant.1.1.1.1.1.1.1 in
     omega arith
 
-pub loop-refusal-preserved : goal.loop-refusal-preserved
-loop-refusal-preserved c =
-    let g = c.loop-refusal in
-    let R = rw c.in-Moved.is at c.update_with.ensures in
-    let e = rebased R.1 g.one c.write_bytes-length-in-Moved.ensures (omega arith) g.invariant.1.1.1.1.1.0 in
+pub turns-preserved : goal.turns-preserved
+turns-preserved c =
+    let g = c.turns in
+    let R = rw c.in-Err-Moved.field-0-is at c.in-Err-Moved.ensures in
+    let e = rebased R.1 g.one c.write_bytes-length-in-Err-Moved.ensures (omega arith) g.invariant.1.1.1.1.1.0 in
     (e.0 ∙ g.invariant.0, (R.0 ∙ g.invariant.1.0, (ap length R.0 ∙ g.invariant.1.1.0, (omega arith, (e.1.1 ∙ g.invariant.1.1.1.1.0, ((rebased_room R.1).1 ∙ g.invariant.1.1.1.1.1.0, (search rules, search rules)))))))

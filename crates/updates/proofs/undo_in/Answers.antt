@@ -1,8 +1,0 @@
--- What was tried, told.
-use Rattle.updates.proofs.Calls.{told-undo}
-use Rattle.updates.proofs.undo_in.Goals as goal
-
-pub returns : goal.returns
-returns c =
-    let a = c.args in
-    rw c.call_of.ensures (told-undo a.tuple.now a.list.now a.base a.front c.requires a.out.now _ c.undo_with.result a.work.now a.table.now c.undo_with.ensures)
