@@ -1,5 +1,5 @@
 -- What the code answers on each way, as the definitions have it. Assumes nothing.
-use Rattle.std.specs.Prelude.{Some, Ok, Err, Result}
+use Rattle.std.specs.Prelude.{Some, None, Ok, Err, Result}
 use Rattle.std.specs.Option.{ok_or}
 use mathlib.Core.Path.{◌≡◌, refl, ap}
 use mathlib.Core.Bool.{Bool, true, false}
@@ -60,6 +60,9 @@ module _ (t l w : Bytes) (used old n e : ℕ) where
 
   abbrev Plans : Field → Action → Planned → Bytes → Type 0
   Plans fd x p v = (p ≡ planned t l w used old n fd x e) × (v ≡ work_after t l w used old n fd x e)
+
+  pub below_zero : (x : Action) {fd : Field} → fd ≡ None → Plans fd x (Err (Refused NoField)) w
+  below_zero x q = rw q (refl, refl)
 
   module _ (fd : Field) {f : ℕ} (x : Action) (i : Ok f ≡ ok_or fd NoField) where
     at_field : {y : Action} {p : Planned} {v : Bytes} → x ≡ y → At-field f y p v → Plans fd x p v
