@@ -152,21 +152,17 @@ module _ (z : Stage) (table back : List ℕ) (f : ℕ) where
         let e : fitting (z.fields + 1) (z.bytes + length_of p) ≡ true = rw (← b) (sym q ∙ t) in
         (rw (b, i, j, l, d.0) (simp e), rw d.1 (simp e), rw (o, m) (simp e))
 
-  pub cut-done : z.head + z.fields ≤ length table → (m head h low tail k : ℕ) → f + m ≤ z.fields → (places : List ℕ) → places ≡ gone_places f m z table → (table' back' : List ℕ)
-      → h ≡ length (unsigned_form f) → k ≡ sum (map length_of places)
+  pub cut-done : (m head h low tail k w : ℕ) (places : List ℕ) → places ≡ gone_places f m z table → (table' back' : List ℕ) → h ≡ length (unsigned_form f)
+      → (k ≡ sum (map length_of places)) × (w ≡ sum (map (λ (p : ℕ). 3 + h + length_of p) places))
       → low ≡ min z.low f → tail ≡ min z.tail (z.fields - (f + m))
       → (head ≡ head_removed (length table) z.head z.fields f m) × (table' ≡ removed z.head z.fields f m table)
       → back' ≡ laid_from z.laid (map (entry_of 0x21 f) places) back
       → Does (Ok (Cut f m)) z table back
       (Ok
-      record { head = head; fields = z.fields - m; bytes = z.bytes - k; used = z.used; laid = z.laid + m; back = z.back + (m * (3 + h) + k); low = low; tail = tail })
+      record { head = head; fields = z.fields - m; bytes = z.bytes - k; used = z.used; laid = z.laid + m; back = z.back + w; low = low; tail = tail })
       table' back'
   unfolding cut_stage
-  cut-done inside m head h low tail k among places e table' back' i g j l d o =
-      let n : length (gone_places f m z table) ≡ m = length-window table (z.head + f) m (omega arith) in
-      let w : m * (3 + h) + k ≡ sum (map (λ (p : ℕ). head_length f + length_of p) (gone_places f m z table))
-      = rw (g, e, i) (sym (rw n at (more-sum (head_length f) (gone_places f m z table)))) in
-      (rw (w, g, e, j, l, d.0), d.1, rw e at o)
+  cut-done m head h low tail k w places e table' back' i g j l d o = (rw (g.0, g.1, e, i, j, l, d.0), d.1, rw e at o)
 
 pub by_plan : (z : Stage) (table back : List ℕ) (x y : Planned) (r : Performed) (t b : List ℕ) → y ≡ x → Does x z table back r t b → Does y z table back r t b
 by_plan z table back x y r t b e d = rw e d

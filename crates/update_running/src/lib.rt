@@ -118,16 +118,26 @@ fn lay_removed(places: &[u32], f: usize, back: &mut [u64], laid: usize)
     }
 }
 
-// The bytes of the fields that go.
-fn gone_of(places: &[u32]) -> usize
-    requires { length places.now ≤ max_fields }
-    ensures { result ≡ sum (map length_of places.now) }
+// Of fields that go: their bytes, and those of the operations that bring them back, each with `head` bytes before its field.
+#[derive(Clone, Copy)]
+struct Gone {
+    bytes: usize,
+    back: usize,
+}
+
+fn gone_of(places: &[u32], head: usize) -> Gone
+    requires { (length places.now ≤ max_fields) × (head ≤ 12) }
+    ensures { (result.bytes ≡ sum (map length_of places.now))
+        × (result.back ≡ sum (map (λ (p : ℕ). head + length_of p) places.now)) }
 {
     let mut bytes: usize = 0;
+    let mut back: usize = 0;
     for p in places {
-        bytes += update_places::length_of(*p);
+        let k = update_places::length_of(*p);
+        bytes += k;
+        back += head + k;
     }
-    bytes
+    Gone { bytes, back }
 }
 
 // ---- plans performed
@@ -199,15 +209,15 @@ fn cut_fields(table: &mut [u32], back: &mut [u64], f: usize, m: usize, stage: St
     let n = stage.fields;
     let from = stage.head + f;
     let places = &table[from..from + m];
-    let gone = gone_of(places);
+    let gone = gone_of(places, 3 + msgpack_writing::unsigned_length(f as u64));
     lay_removed(places, f, back, stage.laid);
     let head = update_table::remove(table, stage.head, n, f, m);
     Ok(Stage {
         head,
         fields: n - m,
-        bytes: stage.bytes - gone,
+        bytes: stage.bytes - gone.bytes,
         laid: stage.laid + m,
-        back: stage.back + (m * (3 + msgpack_writing::unsigned_length(f as u64)) + gone),
+        back: stage.back + gone.back,
         low: stage.low.min(f),
         tail: stage.tail.min(n - (f + m)),
         ..stage
