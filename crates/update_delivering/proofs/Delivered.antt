@@ -15,7 +15,6 @@ use Rattle.msgpack_values.specs.Pieces.{joined}
 use Rattle.msgpack_writing.specs.Forms.{array_header}
 use Rattle.msgpack_writing.specs.Put.{put, next}
 use Rattle.msgpack_writing.proofs.Put.{Wrote, wrote, join}
-use Rattle.msgpack_writing.proofs.Lengths.{array_long}
 use Rattle.tuples.specs.Limits.{max_operations, max_list}
 use Rattle.tuples.specs.Tuple.{plain}
 use Rattle.tuples.specs.Call.{Outcome, refusal, bytes, refusing, writing, delivered}

@@ -7,7 +7,6 @@ ghost use Rattle.msgpack_first_bytes.specs.Bytes.{pick};
 ghost use Rattle.msgpack_values.specs.Pieces.{joined};
 ghost use Rattle.msgpack_writing.specs.Forms.{array_header};
 ghost use Rattle.msgpack_writing.specs.Put.{put, next};
-ghost use Rattle.tuples.specs.Limits.{max_fields};
 ghost use Rattle.tuples.specs.Call.{bytes};
 ghost use Rattle.tuples.specs.Press.{pressing};
 ghost use Rattle.tuples.specs.Tuple.{fields_of, plain};

@@ -2,7 +2,7 @@
 // takes longer than a small update.
 #![tactic(auto)]
 
-ghost use Rattle.std.specs.Prelude.{◌≡◌, ◌≤◌, length};
+ghost use Rattle.std.specs.Prelude.{◌≡◌, length};
 ghost use Rattle.tuples.specs.Call.{update, undo, update_call, undo_call};
 ghost use Rattle.tuples.specs.Press.{press, press_call};
 ghost use Rattle.tuples.specs.Limits.{max_tuple};

@@ -1,9 +1,6 @@
 use mathlib.Core.Path.{◌∙◌}
 use native.Mathlib.Omega.{arith}
-use Rattle.tuples.specs.Tuple.{plain}
-use Rattle.update_delivering.specs.Gathering.{shown}
 use Rattle.update_delivering.proofs.Delivered.{too_short_lem, all-written}
-use Rattle.update_delivering.proofs.Tuples.{few_bytes}
 use Rattle.update_delivering.proofs.deliver.Goals as goal
 
 pub returns-then-out-length : goal.returns-then-out-length

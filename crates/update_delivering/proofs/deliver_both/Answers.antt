@@ -2,7 +2,6 @@ use mathlib.Core.Path.{◌∙◌}
 use native.Mathlib.Omega.{arith}
 use Rattle.msgpack_first_bytes.proofs.Logic.{error_left}
 use Rattle.update_delivering.proofs.Delivered.{Limited, long-declined, out-short, undo-short, both-written, undo-limited, undo-refused, press-is}
-use Rattle.update_delivering.proofs.Tuples.{few_bytes}
 use Rattle.update_delivering.proofs.deliver_both.Goals.{In_ok-undo_length}
 use Rattle.update_delivering.proofs.deliver_both.Goals as goal
 

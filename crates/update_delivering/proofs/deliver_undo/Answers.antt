@@ -2,7 +2,6 @@ use mathlib.Core.Path.{sym, ap, ◌∙◌}
 use native.Mathlib.Omega.{arith}
 use Rattle.msgpack_first_bytes.proofs.Logic.{error_left}
 use Rattle.tuples.specs.Call.{delivered}
-use Rattle.update_delivering.specs.Gathering.{Delivers}
 use Rattle.update_delivering.proofs.Delivered.{Limited, too_short_lem, all-written, long-delivered, undo-limited, undo-refused}
 use Rattle.update_delivering.proofs.deliver_undo.Goals.{In_ok-length}
 use Rattle.update_delivering.proofs.deliver_undo.Goals as goal

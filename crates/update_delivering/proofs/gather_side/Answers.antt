@@ -1,5 +1,4 @@
-use Rattle.std.proofs.Common.{rules, ◌≡◌, ◌<◌, length}
-use native.Mathlib.Omega.{arith}
+use Rattle.std.proofs.Common.{rules, ◌<◌, length}
 use Rattle.update_delivering.proofs.Sides.{side_none, side_after, side_written}
 use Rattle.update_delivering.proofs.gather_side.Goals.{After-start_of-from}
 use Rattle.update_delivering.proofs.gather_side.Goals as goal

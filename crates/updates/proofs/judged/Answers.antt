@@ -1,6 +1,5 @@
 -- What the update call refuses, or 17.
 use native.Mathlib.Omega.{arith}
-use Rattle.std.specs.Prelude.{Ok, Err}
 use Rattle.updates.proofs.Calls.{judges}
 use Rattle.updates.proofs.judged.Goals as goal
 

@@ -1,5 +1,5 @@
 -- The answer with its place.
-use Rattle.updates.proofs.Calls.{press-both, press-declined, press-long, refuses_few}
+use Rattle.updates.proofs.Calls.{press-both, press-declined, press-long}
 use Rattle.updates.proofs.press.Goals as goal
 
 pub returns-in-Ok : goal.returns-in-Ok

@@ -1,7 +1,7 @@
 -- The answer with its place.
 use Rattle.std.specs.Prelude.{Ok, Err}
 use Rattle.tuples.specs.Call.{undo, undo_call}
-use Rattle.updates.proofs.Calls.{answers, answers-long, refuses_few}
+use Rattle.updates.proofs.Calls.{answers, answers-long}
 use Rattle.updates.proofs.undo.Goals as goal
 use Rattle.update_delivering.specs.declared.Failed.TheVariants.{Refused}
 
