@@ -11,7 +11,7 @@ use lib.ListN.{length, take, drop, length-drop, take-append-drop}
 use lib.Seq.{drop-drop, take-length, take_all}
 use Rattle.msgpack_first_bytes.specs.Bytes.{Bytes, pick}
 use Rattle.msgpack_first_bytes.proofs.Logic.{either}
-use Rattle.msgpack_writing.specs.Put.{next}
+use Rattle.msgpack_writing.specs.Put.{next, Writes}
 use Rattle.msgpack_writing.specs.Put as Writing
 use Rattle.msgpack_writing.proofs.Put.{refused}
 use Rattle.tuples.specs.Limits.{max_tuple}
@@ -20,7 +20,6 @@ use Rattle.tuples.specs.declared.Refusal.TheVariants.{TooLarge}
 use Rattle.update_operations.specs.declared.Change.{Change}
 use Rattle.update_places.specs.Place.{start_of, length_of, bytes_from, bytes_at}
 use Rattle.update_altering.specs.Altering.{changed, Alters, Altered, altered_by, work_by}
-use Rattle.update_altering.specs.Splicing.{Writes}
 use Rattle.update_altering.specs.declared.Obstacle.TheVariants.{Full, Refused}
 
 -- ---- a new field's answer

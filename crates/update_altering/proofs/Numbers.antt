@@ -9,14 +9,13 @@ use lib.ListN.{length}
 use Rattle.msgpack_first_bytes.specs.Bytes.{Bytes}
 use Rattle.msgpack_first_bytes.proofs.Logic.{either}
 use Rattle.msgpack_scalars.specs.declared.Int.{Int, TheVariants.FromZero, TheVariants.BelowZero}
-use Rattle.msgpack_writing.specs.Put.{next}
+use Rattle.msgpack_writing.specs.Put.{next, Writes}
 use Rattle.msgpack_writing.specs.Put as Writing
 use Rattle.msgpack_writing.proofs.Lengths.{Long, unsigned-long, negative_long}
 use Rattle.msgpack_read_back.specs.Claims.{integer_form, InRange}
 use Rattle.tuples.specs.Limits.{max_tuple}
 use Rattle.tuples.specs.Edit.{put}
 use Rattle.update_altering.specs.Altering.{Alters}
-use Rattle.update_altering.specs.Splicing.{Writes}
 use Rattle.update_altering.proofs.Edits.{put_full, put_is}
 use Rattle.update_altering.specs.declared.Obstacle.TheVariants.{Full}
 

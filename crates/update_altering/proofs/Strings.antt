@@ -24,7 +24,8 @@ use Rattle.update_places.specs.Place.{in_list, in_work, bytes_from}
 use Rattle.update_places.proofs.Runs.{by_source, from-tuple, from_list, from-work}
 use Rattle.update_places.proofs.Kept.{drop-take}
 use Rattle.update_altering.specs.Altering.{Alters, Altered}
-use Rattle.update_altering.specs.Splicing.{cut_by, Fits, Writes}
+use Rattle.msgpack_writing.specs.Put.{Writes}
+use Rattle.update_altering.specs.Splicing.{cut_by, Fits}
 use Rattle.update_altering.proofs.Edits.{put_large, put_full, put_is}
 use Rattle.update_altering.specs.declared.Obstacle.TheVariants.{Full, Refused}
 

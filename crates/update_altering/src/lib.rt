@@ -9,7 +9,8 @@ ghost use Rattle.tuples.specs.Operation.{splice};
 ghost use Rattle.tuples.specs.Edit.{put, edit_at};
 ghost use Rattle.update_places.specs.Place.{bytes_from, bytes_at};
 ghost use Rattle.update_altering.specs.Altering.{changed, altered_by, work_by, Alters};
-ghost use Rattle.update_altering.specs.Splicing.{Fits, Writes};
+ghost use Rattle.msgpack_writing.specs.Put.{Writes};
+ghost use Rattle.update_altering.specs.Splicing.{Fits};
 ghost use Rattle.update_altering.specs.declared.Obstacle.TheVariants.{Refused};
 
 use msgpack_scalars::Int;

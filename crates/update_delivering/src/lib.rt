@@ -6,7 +6,7 @@ ghost use Rattle.std.specs.Prelude.{◌≡◌, ◌++◌, ◌+◌, ◌^◌, ◌<�
 ghost use Rattle.msgpack_first_bytes.specs.Bytes.{pick};
 ghost use Rattle.msgpack_values.specs.Pieces.{joined};
 ghost use Rattle.msgpack_writing.specs.Forms.{array_header};
-ghost use Rattle.msgpack_writing.specs.Put.{put, next};
+ghost use Rattle.msgpack_writing.specs.Put.{next, Writes};
 ghost use Rattle.tuples.specs.Call.{bytes};
 ghost use Rattle.tuples.specs.Press.{pressing};
 ghost use Rattle.tuples.specs.Tuple.{fields_of, plain};
@@ -95,8 +95,7 @@ impl From<Refusal> for Unwritten {
 // The fields of entries that lie side by side: one copy.
 fn gather_side(sources: Sources, entries: &[u32], out: &mut [u8], at: usize) -> usize
     requires { Gathers sources.tuple.now sources.list.now sources.work.now entries.now out.old at × Side entries.now }
-    ensures { let fields = joined (fields_in sources.entry.tuple.now sources.entry.list.now sources.entry.work.now entries.now) in
-        (result ≡ next at fields out.old) × (out.new ≡ put at fields out.old) }
+    ensures { Writes at (joined (fields_in sources.entry.tuple.now sources.entry.list.now sources.entry.work.now entries.now)) result out.old out.new }
 {
     if entries.is_empty() {
         return at;
@@ -110,8 +109,7 @@ fn gather_side(sources: Sources, entries: &[u32], out: &mut [u8], at: usize) -> 
 // The fields of any entries, back to back: places that lie side by side go in one copy.
 fn gather_each(sources: Sources, entries: &[u32], out: &mut [u8], at: usize) -> usize
     requires { Gathers sources.tuple.now sources.list.now sources.work.now entries.now out.old at }
-    ensures { let fields = joined (fields_in sources.entry.tuple.now sources.entry.list.now sources.entry.work.now entries.now) in
-        (result ≡ next at fields out.old) × (out.new ≡ put at fields out.old) }
+    ensures { Writes at (joined (fields_in sources.entry.tuple.now sources.entry.list.now sources.entry.work.now entries.now)) result out.old out.new }
 {
     let mut to = at;
     for side in entries.chunk_by(|a, b| start_of(*a) + length_of(*a) == start_of(*b)) {
@@ -130,8 +128,7 @@ fn gather(
     at: usize,
 ) -> usize
     requires { Gathers sources.tuple.now sources.list.now sources.work.now entries.now out.old at × Sides entries.now low tail }
-    ensures { let fields = joined (fields_in sources.entry.tuple.now sources.entry.list.now sources.entry.work.now entries.now) in
-        (result ≡ next at fields out.old) × (out.new ≡ put at fields out.old) }
+    ensures { Writes at (joined (fields_in sources.entry.tuple.now sources.entry.list.now sources.entry.work.now entries.now)) result out.old out.new }
 {
     let last = low.max(entries.len() - tail);
     let a = gather_side(sources, &entries[..low], out, at);
@@ -191,8 +188,7 @@ fn rebase(
 
 fn write_entry(sources: Sources, entry: u64, out: &mut [u8], at: usize) -> usize
     requires { (entry_mark entry < 2 ^ 8) × (at + length (entry_bytes sources.tuple.now sources.list.now sources.work.now entry) ≤ length out.old) }
-    ensures { (result ≡ next at (entry_bytes sources.entry.tuple.now sources.entry.list.now sources.entry.work.now entry) out.old)
-        × (out.new ≡ put at (entry_bytes sources.entry.tuple.now sources.entry.list.now sources.entry.work.now entry) out.old) }
+    ensures { Writes at (entry_bytes sources.entry.tuple.now sources.entry.list.now sources.entry.work.now entry) result out.old out.new }
 {
     let f = (entry >> 32) % 0x1_0000;
     let mark = (entry >> 48) as u8;
@@ -209,8 +205,7 @@ fn write_entry(sources: Sources, entry: u64, out: &mut [u8], at: usize) -> usize
 // What was laid last comes first.
 fn write_entries(sources: Sources, entries: &[u64], out: &mut [u8], at: usize) -> usize
     requires { Entries entries.now (length entries.now) × (at + length (joined (undo_in sources.tuple.now sources.list.now sources.work.now entries.now)) ≤ length out.old) }
-    ensures { let operations = joined (undo_in sources.entry.tuple.now sources.entry.list.now sources.entry.work.now entries.now) in
-        (result ≡ next at operations out.old) × (out.new ≡ put at operations out.old) }
+    ensures { Writes at (joined (undo_in sources.entry.tuple.now sources.entry.list.now sources.entry.work.now entries.now)) result out.old out.new }
 {
     let mut to = at;
     for entry in entries.iter().rev() {

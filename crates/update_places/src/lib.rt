@@ -2,7 +2,7 @@
 #![tactic(auto)]
 
 ghost use Rattle.std.specs.Prelude.{◌≡◌, ◌^◌, ◌<◌, take, drop};
-ghost use Rattle.msgpack_writing.specs.Put.{put, next};
+ghost use Rattle.msgpack_writing.specs.Put.{Writes};
 ghost use Rattle.update_places.specs.Place.{place_of, start_of, length_of, bytes_from};
 
 // Where the list and the work array begin in the numbering of the starts.
@@ -61,8 +61,7 @@ impl<'a> Sources<'a> {
 
 // A copy of n bytes from a start on, into the rest of a buffer.
 pub fn copy_from(sources: Sources, at: usize, n: usize, out: &mut [u8], to: usize) -> usize
-    ensures { let bytes = bytes_from sources.entry.tuple.now sources.entry.list.now sources.entry.work.now at n in
-        (result ≡ next to bytes out.old) × (out.new ≡ put to bytes out.old) }
+    ensures { Writes to (bytes_from sources.entry.tuple.now sources.entry.list.now sources.entry.work.now at n) result out.old out.new }
 {
     msgpack_writing::write_bytes(out, to, sources.bytes(at, n))
 }

@@ -163,6 +163,3 @@ module _ (z : Stage) (table back : List ℕ) (f : ℕ) where
       table' back'
   unfolding cut_stage
   cut-done m head h low tail k w places e table' back' i g j l d o = (rw (g.0, g.1, e, i, j, l, d.0), d.1, rw e at o)
-
-pub by_plan : (z : Stage) (table back : List ℕ) (x y : Planned) (r : Performed) (t b : List ℕ) → y ≡ x → Does x z table back r t b → Does y z table back r t b
-by_plan z table back x y r t b e d = rw e d
