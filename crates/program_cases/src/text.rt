@@ -49,10 +49,11 @@ pub(crate) fn decimal(text: &[u8]) -> usize {
             return n;
         }
         let digit = usize::from(*b - b'0');
-        let Some(more) = n.checked_mul(10).and_then(|tens| tens.checked_add(digit)) else {
+        if (usize::MAX - digit) / 10 < n {
             return n;
-        };
-        n = more;
+        }
+        // Ten times n.
+        n = (n << 3) + (n << 1) + digit;
     }
     n
 }
