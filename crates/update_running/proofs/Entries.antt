@@ -167,6 +167,3 @@ module _ (z : Stage) (table back : List ℕ) (f : ℕ) where
       let w : m * (3 + h) + k ≡ sum (map (λ (p : ℕ). head_length f + length_of p) (gone_places f m z table))
       = rw (g, e, i) (sym (rw n at (more-sum (head_length f) (gone_places f m z table)))) in
       (rw (w, g, e, j, l, d.0), d.1, rw e at o)
-
-pub by_plan : (z : Stage) (table back : List ℕ) (x y : Planned) (r : Performed) (t b : List ℕ) → y ≡ x → Does x z table back r t b → Does y z table back r t b
-by_plan z table back x y r t b e d = rw e d

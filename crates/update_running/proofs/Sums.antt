@@ -1,10 +1,10 @@
 -- Sums of lengths, and what an edit leaves at both ends. Assumes nothing.
 use mathlib.Core.Path.{◌≡◌, refl, sym, ap, ◌∙◌}
 use mathlib.Core.List.{List, [], ◌∷◌, ◌++◌, map, append_assoc}
-use Prim.Native.Nat.{ℕ, suc, ◌+◌, ◌-◌, ◌<◌, ◌≤◌}
+use Prim.Native.Nat.{ℕ, suc, ◌+◌, ◌-◌, ◌≤◌}
 use native.Mathlib.Omega.{arith}
-use lib.ListN.{length, take, drop, get_or, length-append, length-drop, take-append-drop}
-use lib.Seq.{length-take-le, take-take, take-append-le, drop-append-add, drop-drop, drop-cons}
+use lib.ListN.{length, take, drop, length-append, length-drop, take-append-drop}
+use lib.Seq.{length-take-le, take-take, take-append-le, drop-append-add, drop-drop}
 use Rattle.msgpack_first_bytes.specs.Bytes.{Bytes}
 use Rattle.msgpack_values.specs.Pieces.{joined}
 use Rattle.tuples.specs.Edit.{spliced}
@@ -36,10 +36,6 @@ sum-spliced f c ys ls =
     let h = ap sum (take-append-drop c (drop f ls)) in
     let i : sum (drop c (drop f ls)) ≡ sum (drop (f + c) ls) = ap sum (drop-drop c f ls) in
     omega arith
-
-pub sum_one : (ls : List ℕ) (f : ℕ) → f < length ls → sum (take 1 (drop f ls)) ≡ get_or ls f 0
-unfolding sum
-sum_one ls f h = rw (drop-cons ls f 0 h) (omega arith)
 
 module _ {A : Type 0} (f c : ℕ) (xs s : List A) (h : f + c ≤ length s) where
   before : length (take f s) ≡ f
