@@ -39,6 +39,7 @@ fn print_number(words: &[u8], number: u32) {
     io::print_decimal(STDOUT, number as u64);
 }
 
+// Stays: no Display, since the crate `io` prints bytes to a descriptor and needs no runtime.
 fn print_refusal(why: StayedOut) {
     match why {
         StayedOut::NoFrame(n) => print_number(b"it stays out: no frame, refused with ", n),

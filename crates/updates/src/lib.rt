@@ -23,6 +23,9 @@ const SHORT_TABLE: usize = 144;
 
 const SHORT_WORK: usize = 256;
 
+// Stays: each call tries its arrays in its own words, since one function over a closure would have to take its promise (`Told`, `ToldOrLong`, `PressToldOrLong`) and its last resort as parameters.
+// Stays: the arms `Refused` and `Ok` that hand on what was told, since with `told => told` the goals (`returns-in_default`) hold a value that no proof file can name.
+
 // What a list's front tells: so many operations, the first of them at a place; more than the limit where the
 // list is refused.
 #[derive(Clone, Copy)]

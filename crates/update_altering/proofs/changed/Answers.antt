@@ -1,5 +1,6 @@
 -- Each change by what it does to the field.
 use mathlib.Core.Path.{refl}
+use Prim.Native.Nat.{ℕ, ◌<◌, ◌≤◌}
 use native.Mathlib.Omega.{arith}
 use Rattle.msgpack_first_bytes.proofs.Logic.{error_left}
 use Rattle.update_altering.specs.Altering.{changed}
@@ -15,11 +16,11 @@ unfolding changed
 returns-in_err-z-in-Bits-clause-edit c =
     rw (error_left _ _ c.from_residual-in_err-z-in-Bits.ensures.1, c.in-Bits.is, c.in_err-z-in-Bits.ensures.0) (refl, refl)
 
+short : {n size most : ℕ} → n ≤ size → size < most → n < most
+short h k = omega arith
+
 pub splice-requires : goal.splice-requires
-splice-requires c =
-    let s = c.args.sources in
-    let h = no_longer s.tuple.now s.list.now s.work.now c.args.at c.args.size in
-    rw c.bytes.ensures (omega arith)
+splice-requires c = let s = c.args.sources in rw c.bytes.ensures (short (no_longer s.tuple.now s.list.now s.work.now _ c.args.size) c.requires)
 
 pub returns-in_ok-z-in-Sum-clause-edit : goal.returns-in_ok-z-in-Sum-clause-edit
 unfolding changed
