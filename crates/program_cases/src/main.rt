@@ -134,5 +134,5 @@ fn main() {
     let mut input = [0u8; 655360];
     let n = io::read_full(0, &mut input);
     value_cases::print_first_bytes();
-    print_lines(&input[..n]);
+    print_lines(&input[0..n]);
 }
