@@ -56,8 +56,7 @@ overflow_add-result-2 c =
 
 pub gone_of-gone-requires : goal.gone_of-gone-requires
 gone_of-gone-requires c =
-    let a = c.args in
-    (
+    let a = c.args in (
       omega (arith, length-take (a.stage.head + a.f + a.m - (a.stage.head + a.f)) (drop (a.stage.head + a.f) a.table.now), c.requires.1, c.requires.0.few),
       omega (arith, form_short _ _ c.unsigned_length.ensures),
     )
