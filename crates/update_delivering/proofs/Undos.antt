@@ -97,8 +97,8 @@ module _ (t l w out : Bytes) (at : ℕ) {es : List ℕ} (E : Entries es (length 
           omega (arith, sizes, R, g.wrote.end, g.wrote.long),
         )
 
-    pub entry_written : {new : Bytes} {k : ℕ} → Puts to (entry_bytes t l w e) cur new k → Written t l w es out at fewer new k
-    entry_written {new} {k} a =
+    pub rear-written : {new : Bytes} {k : ℕ} → Puts to (entry_bytes t l w e) cur new k → Written t l w es out at fewer new k
+    rear-written {new} {k} a =
         record {
           behind = e ∷ g.behind;
           is = split;
