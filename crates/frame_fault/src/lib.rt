@@ -106,7 +106,7 @@ fn compose(input: &[u8], out: &mut [u8]) -> usize
 {
     let mut at: usize = 0;
     let mut frames: u64 = 0;
-    // Stays: (d) a loop with a cursor, as in `frame_listing`.
+    // Stays: a loop with a cursor, as in `frame_listing`.
     while at < input.len() {
         let answer = frame_reading::read_frame(&input[at..]);
         if answer.number != 0 {

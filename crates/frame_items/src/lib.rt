@@ -28,7 +28,7 @@ pub struct KnownKey {
 fn view_sound(v: &[u8]) -> bool
     ensures { result ≡ sound (encoding v.now) }
 {
-    // Stays: (c) `is_ok_and(|end| end == v.len())` in place of the match: the proof did not get at the closure's contract.
+    // Stays: `is_ok_and(|end| end == v.len())` in place of the match: the proof did not get at the closure's contract.
     match msgpack_values::read_value(v, 0, frames::HELD_DEPTH) {
         Ok(end) => end == v.len(),
         Err(_) => false,

@@ -32,7 +32,7 @@ fn place_content(bytes: &[u8], place: Place) -> Content
     Content::View(place)
 }
 
-// Stays: (d) frame and bytes as two parameters, here, in `frame_judging` and in `frame_writing`: `write_frame` is lent them apart, and each clause names each by itself.
+// Stays: frame and bytes as two parameters, here, in `frame_judging` and in `frame_writing`: `write_frame` is lent them apart, and each clause names each by itself.
 // What the i-th known key holds, in the order of document 01's tables; past the last nothing.
 #[tactic(auto, unfolding(frame_items::specs::Content::content_at))]
 fn content_of(frame: Frame, bytes: &[u8], i: usize) -> Content

@@ -42,7 +42,7 @@ fn write_last(out: &mut [u8], how: &[u8], n: u64) -> usize
 }
 
 // How long a line is, and how many bytes of the input it is for: none where it is the last.
-// Stays: (d) 0 for the last one: with an Option, `lay` would have to be told too that a frame's bytes are not 0.
+// Stays: 0 for the last one: with an Option, `lay` would have to be told too that a frame's bytes are not 0.
 #[derive(Clone, Copy)]
 struct Line {
     length: usize,
@@ -89,7 +89,7 @@ fn lay(input: &[u8], out: &mut [u8], from: usize) -> usize
     let mut to: usize = 0;
     let mut at: usize = 0;
     let mut number: u64 = 1;
-    // Stays: (d) a loop with a cursor: a frame's length is known when it is read, so that no range or iterator steps from one to the next.
+    // Stays: a loop with a cursor: a frame's length is known when it is read, so that no range or iterator steps from one to the next.
     loop {
         let Line { length, bytes } = first_line(&input[at..], number, &mut line);
         write_bytes(out, from + to, &line[..length]);

@@ -10,6 +10,7 @@ use frames::Place;
 use msgpack_scalars::Opening;
 
 // Where a key's value starts, and its length: 0 where the key is absent, since a value has one byte at least.
+// Stays: no Option, which would make each of the two tables half as long again, 3 KB in place of 2.
 #[derive(Clone, Copy)]
 pub struct Value {
     pub start: usize,

@@ -7,7 +7,7 @@ ghost use Rattle.msgpack_first_bytes.specs.Entry.{length_bytes, kind_digit};
 ghost use Rattle.msgpack_numbers.specs.Number.{number};
 ghost use Rattle.msgpack_values.specs.Value.{shift, payload, sized, items, value};
 ghost use Rattle.msgpack_values.specs.Spoiled.{place_of, spoiled_at};
-ghost use Rattle.msgpack_values.specs.Tokens.{first_byte_entry, Width, Counts, values_of, token_of, Heads, Tells, Reads, Ones, Inside, Same, Ran};
+ghost use Rattle.msgpack_values.specs.Tokens.{first_byte_entry, Width, Counts, values_of, Heads, Tells, Reads, Ones, Inside, Same, Ran};
 
 // A whole value's end, the place of the first byte after it; of a broken one the place of the first
 // spoiling byte: an unused first byte, a container one too deep, or the end of the bytes.
@@ -214,6 +214,7 @@ fn past_fours(s: &[u8], at: usize, stop: usize) -> usize
     ensures { (result ≤ stop) × Ones s.now at result }
 {
     let mut end = at;
+    // Stays: no chunks of four: where they stop is a place in `s`, which a chunk does not tell.
     while 4 <= stop - end && four_ones(s, end) {
         end += 4;
     }
@@ -297,6 +298,7 @@ fn read_items(s: &[u8], at: usize, n: usize, depth: usize) -> Read
 {
     let mut end = at;
     let mut left = n;
+    // Stays: a run takes several items at once, so that no range counts the turns.
     while 0 < left {
         match read_item(s, end, depth)? {
             Item::Past(next) => {

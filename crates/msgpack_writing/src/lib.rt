@@ -26,6 +26,8 @@ fn put_tagged(out: &mut [u8], tag: u8, n: u64, width: usize)
     out[0] = tag;
 }
 
+// Stays: a buffer and a place in it, here and in all that write pieces: a struct that holds the `&mut` needs in each contract one
+// clause more, that it holds the same reference still.
 // The tests subtract, since a sum of place and width could wrap.
 pub fn write_tagged(out: &mut [u8], at: usize, tag: u8, n: u64, width: usize) -> usize
     ensures { Writes at (tagged tag width n) result out.old out.new }

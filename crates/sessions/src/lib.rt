@@ -10,7 +10,7 @@ use msgpack_values::OptionalNumber;
 // The longest frame: a size number of nine bytes and the 60,000 that it promises. A carry buffer has room for it.
 pub const CARRY_ROOM: usize = 60_009;
 
-// Stays: (a) C reads and keeps these three structs, so that 0 says that nothing was refused, and numbers stand for refusals.
+// Stays: C reads and keeps these three structs, so that 0 says that nothing was refused, and numbers stand for refusals.
 
 // What one feed leaves for the next.
 #[repr(C)]
