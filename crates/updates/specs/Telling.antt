@@ -13,7 +13,6 @@ use Rattle.tuples.specs.declared.Refusal.TheVariants.{TooLarge}
 use Rattle.update_answers.specs.Seen.{refusal_of, answer_at}
 use Rattle.update_running.specs.Carrying.{Came, comes_to, rest_of}
 use Rattle.update_delivering.specs.Delivering.{long_by, written, both_written, Pressed}
-use Rattle.updates.specs.declared.Front.{Front}
 use Rattle.update_delivering.specs.declared.Failed.TheVariants.{NoRoom, Refused}
 use Rattle.update_delivering.specs.declared.Failed.{Failed}
 
@@ -21,9 +20,9 @@ use Rattle.update_delivering.specs.declared.Failed.{Failed}
 abbrev pub Call : Type 0
 Call = Result ℕ Failed
 
--- what the front of a list tells: the operations from its place on are the list's
-abbrev pub Fronts : ℕ → Bytes → Front → Type 0
-Fronts base l f = rest_of base f.count 0 f.start l ≡ operations_of base l
+-- what the front of a list tells: so many operations from a place on are the list's
+abbrev pub Fronts : ℕ → Bytes → ℕ → ℕ → Type 0
+Fronts base l count start = rest_of base count 0 start l ≡ operations_of base l
 
 -- what a list comes to on a tuple
 abbrev pub came_of : Bytes → Bytes → ℕ → Came

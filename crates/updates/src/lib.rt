@@ -26,10 +26,13 @@ const SHORT_WORK: usize = 256;
 // Stays: each call tries its arrays in its own words, since one function over a closure would have to take its promise (`Told`, `ToldOrLong`, `PressToldOrLong`) and its last resort as parameters.
 // Stays: the arms `Refused` and `Ok` that hand on what was told, since with `told => told` the goals (`returns-in_default`) hold a value that no proof file can name.
 
-// What a list's front tells: so many operations, the first of them at a place; more than the limit where the
-// list is refused.
+// What a call asks for: the operations of a list on a tuple. The list's front tells how many they are and where the
+// first of them begins; more than the limit where the list is refused.
 #[derive(Clone, Copy)]
-struct Front {
+struct Request<'a> {
+    tuple: &'a [u8],
+    list: &'a [u8],
+    base: u64,
     count: usize,
     start: usize,
 }
@@ -37,35 +40,35 @@ struct Front {
 // The length written, or why nothing is.
 type Call = Result<usize, Failed>;
 
-fn front_of(list: &[u8], base: u64) -> Front
-    ensures { Fronts base list.now result }
+// The front is read once for every try.
+fn request_of<'a>(tuple: &'a [u8], list: &'a [u8], base: u64) -> Request<'a>
+    ensures { (result.tuple.now ≡ tuple.now) × (result.list.now ≡ list.now) × (result.base ≡ base)
+        × Fronts base list.now result.count result.start }
 {
     let (count, start) = update_operations::front_of(list, base).unwrap_or((MAX_OPERATIONS + 1, 0));
-    Front { count, start }
+    Request {
+        tuple,
+        list,
+        base,
+        count,
+        start,
+    }
 }
 
 // ---- the update call
 
-fn update_in(
-    tuple: &[u8],
-    list: &[u8],
-    base: u64,
-    front: Front,
-    table: &mut [u32],
-    work: &mut [u8],
-    out: &mut [u8],
-) -> Call
-    requires { Fronts base list.now front }
-    ensures { Tells result (update tuple.now list.now base) out.old out.new }
+fn update_in(request: Request, table: &mut [u32], work: &mut [u8], out: &mut [u8]) -> Call
+    requires { Fronts request.base request.list.now request.count request.start }
+    ensures { Tells result (update request.entry.tuple.now request.entry.list.now request.entry.base) out.old out.new }
 {
     let mut none = [0u8; 0];
     Ok(update_delivering::update_with(
-        tuple,
-        list,
-        base,
-        front.start,
+        request.tuple,
+        request.list,
+        request.base,
+        request.start,
         0,
-        front.count,
+        request.count,
         table,
         work,
         &mut none,
@@ -74,34 +77,27 @@ fn update_in(
 }
 
 // Wherever the work array is full, the fields up to there become the tuple, and the run goes on from it.
-fn update_long(
-    tuple: &[u8],
-    list: &[u8],
-    base: u64,
-    front: Front,
-    table: &mut [u32],
-    work: &mut [u8],
-    out: &mut [u8],
-) -> Call
-    requires { Fronts base list.now front × (length table.old ≡ table_room) × (length work.old ≡ max_tuple) }
-    ensures { Told result (update tuple.now list.now base) out.old out.new }
+fn update_long(request: Request, table: &mut [u32], work: &mut [u8], out: &mut [u8]) -> Call
+    requires { Fronts request.base request.list.now request.count request.start
+        × (length table.old ≡ table_room) × (length work.old ≡ max_tuple) }
+    ensures { Told result (update request.entry.tuple.now request.entry.list.now request.entry.base) out.old out.new }
 {
-    if MAX_TUPLE < tuple.len() {
+    if MAX_TUPLE < request.tuple.len() {
         return Err(Failed::Refused(Refusal::BadTuple, 0));
     }
     let mut one = [0u8; MAX_TUPLE];
     let mut other = [0u8; MAX_TUPLE];
-    let mut length = msgpack_writing::write_bytes(&mut one, 0, tuple);
-    let mut at = front.start;
+    let mut length = msgpack_writing::write_bytes(&mut one, 0, request.tuple);
+    let mut at = request.start;
     let mut i = 0;
-    'turns: loop {
+    loop {
         match update_delivering::update_with(
             &one[..length],
-            list,
-            base,
+            request.list,
+            request.base,
             at,
             i,
-            front.count,
+            request.count,
             table,
             work,
             &mut other,
@@ -119,14 +115,14 @@ fn update_long(
     }
 }
 
-fn update_more(tuple: &[u8], list: &[u8], base: u64, front: Front, out: &mut [u8]) -> Call
-    requires { Fronts base list.now front }
-    ensures { Told result (update tuple.now list.now base) out.old out.new }
+fn update_more(request: Request, out: &mut [u8]) -> Call
+    requires { Fronts request.base request.list.now request.count request.start }
+    ensures { Told result (update request.entry.tuple.now request.entry.list.now request.entry.base) out.old out.new }
 {
     let mut table = [0u32; TABLE_ROOM];
     let mut work = [0u8; MAX_TUPLE];
-    match update_in(tuple, list, base, front, &mut table, &mut work, out) {
-        Err(Failed::NoRoom) => update_long(tuple, list, base, front, &mut table, &mut work, out),
+    match update_in(request, &mut table, &mut work, out) {
+        Err(Failed::NoRoom) => update_long(request, &mut table, &mut work, out),
         Err(Failed::Refused(refusal, i)) => Err(Failed::Refused(refusal, i)),
         Ok(length) => Ok(length),
     }
@@ -136,14 +132,14 @@ fn update_more(tuple: &[u8], list: &[u8], base: u64, front: Front, out: &mut [u8
 fn updated(tuple: &[u8], list: &[u8], base: u64, out: &mut [u8]) -> Call
     ensures { Told result (update tuple.now list.now base) out.old out.new }
 {
-    let front = front_of(list, base);
+    let request = request_of(tuple, list, base);
     if SHORT_LIST < list.len() {
-        return update_more(tuple, list, base, front, out);
+        return update_more(request, out);
     }
     let mut table = [0u32; SHORT_TABLE];
     let mut work = [0u8; SHORT_WORK];
-    match update_in(tuple, list, base, front, &mut table, &mut work, out) {
-        Err(Failed::NoRoom) => update_more(tuple, list, base, front, out),
+    match update_in(request, &mut table, &mut work, out) {
+        Err(Failed::NoRoom) => update_more(request, out),
         Err(Failed::Refused(refusal, i)) => Err(Failed::Refused(refusal, i)),
         Ok(length) => Ok(length),
     }
@@ -180,47 +176,42 @@ pub fn update(tuple: &[u8], list: &[u8], index_base: u64, out: &mut [u8]) -> Ans
 // ---- the undo call
 
 // In the longest work array: where it is full, the undo list is too long.
-fn undo_long(
-    tuple: &[u8],
-    list: &[u8],
-    base: u64,
-    front: Front,
-    table: &mut [u32; TABLE_ROOM],
-    out: &mut [u8],
-) -> Call
-    requires { Fronts base list.now front }
-    ensures { ToldOrLong result (undo tuple.now list.now base) (came_of tuple.now list.now base) out.old out.new }
+fn undo_long(request: Request, table: &mut [u32; TABLE_ROOM], out: &mut [u8]) -> Call
+    requires { Fronts request.base request.list.now request.count request.start }
+    ensures { ToldOrLong result (undo request.entry.tuple.now request.entry.list.now request.entry.base)
+        (came_of request.entry.tuple.now request.entry.list.now request.entry.base) out.old out.new }
 {
     let mut work = [0u8; WORK_ROOM];
     update_delivering::undo_with(
-        tuple,
-        list,
-        base,
-        front.start,
-        front.count,
+        request.tuple,
+        request.list,
+        request.base,
+        request.start,
+        request.count,
         table,
         &mut work,
         out,
     )
 }
 
-fn undo_more(tuple: &[u8], list: &[u8], base: u64, front: Front, out: &mut [u8]) -> Call
-    requires { Fronts base list.now front }
-    ensures { ToldOrLong result (undo tuple.now list.now base) (came_of tuple.now list.now base) out.old out.new }
+fn undo_more(request: Request, out: &mut [u8]) -> Call
+    requires { Fronts request.base request.list.now request.count request.start }
+    ensures { ToldOrLong result (undo request.entry.tuple.now request.entry.list.now request.entry.base)
+        (came_of request.entry.tuple.now request.entry.list.now request.entry.base) out.old out.new }
 {
     let mut table = [0u32; TABLE_ROOM];
     let mut work = [0u8; MAX_TUPLE];
     match update_delivering::undo_with(
-        tuple,
-        list,
-        base,
-        front.start,
-        front.count,
+        request.tuple,
+        request.list,
+        request.base,
+        request.start,
+        request.count,
         &mut table,
         &mut work,
         out,
     ) {
-        Err(Failed::NoRoom) => undo_long(tuple, list, base, front, &mut table, out),
+        Err(Failed::NoRoom) => undo_long(request, &mut table, out),
         Err(Failed::Refused(refusal, i)) => Err(Failed::Refused(refusal, i)),
         Ok(length) => Ok(length),
     }
@@ -230,23 +221,23 @@ fn undo_more(tuple: &[u8], list: &[u8], base: u64, front: Front, out: &mut [u8])
 fn undone(tuple: &[u8], list: &[u8], base: u64, out: &mut [u8]) -> Call
     ensures { ToldOrLong result (undo tuple.now list.now base) (came_of tuple.now list.now base) out.old out.new }
 {
-    let front = front_of(list, base);
+    let request = request_of(tuple, list, base);
     if SHORT_LIST < list.len() {
-        return undo_more(tuple, list, base, front, out);
+        return undo_more(request, out);
     }
     let mut table = [0u32; SHORT_TABLE];
     let mut work = [0u8; SHORT_WORK];
     match update_delivering::undo_with(
-        tuple,
-        list,
-        base,
-        front.start,
-        front.count,
+        request.tuple,
+        request.list,
+        request.base,
+        request.start,
+        request.count,
         &mut table,
         &mut work,
         out,
     ) {
-        Err(Failed::NoRoom) => undo_more(tuple, list, base, front, out),
+        Err(Failed::NoRoom) => undo_more(request, out),
         Err(Failed::Refused(refusal, i)) => Err(Failed::Refused(refusal, i)),
         Ok(length) => Ok(length),
     }
@@ -282,25 +273,23 @@ pub fn undo(tuple: &[u8], list: &[u8], index_base: u64, out: &mut [u8]) -> Answe
 
 // In the longest work array.
 fn press_long(
-    tuple: &[u8],
-    list: &[u8],
-    base: u64,
-    front: Front,
+    request: Request,
     table: &mut [u32; TABLE_ROOM],
     out: &mut [u8],
     back: &mut [u8],
 ) -> Pressed
-    requires { Fronts base list.now front }
-    ensures { PressToldOrLong result (press tuple.now list.now base) (undo tuple.now list.now base)
-        (came_of tuple.now list.now base) out.old out.new back.old back.new }
+    requires { Fronts request.base request.list.now request.count request.start }
+    ensures { PressToldOrLong result (press request.entry.tuple.now request.entry.list.now request.entry.base)
+        (undo request.entry.tuple.now request.entry.list.now request.entry.base)
+        (came_of request.entry.tuple.now request.entry.list.now request.entry.base) out.old out.new back.old back.new }
 {
     let mut work = [0u8; WORK_ROOM];
     update_delivering::press_with(
-        tuple,
-        list,
-        base,
-        front.start,
-        front.count,
+        request.tuple,
+        request.list,
+        request.base,
+        request.start,
+        request.count,
         table,
         &mut work,
         out,
@@ -308,32 +297,26 @@ fn press_long(
     )
 }
 
-fn press_more(
-    tuple: &[u8],
-    list: &[u8],
-    base: u64,
-    front: Front,
-    out: &mut [u8],
-    back: &mut [u8],
-) -> Pressed
-    requires { Fronts base list.now front }
-    ensures { PressToldOrLong result (press tuple.now list.now base) (undo tuple.now list.now base)
-        (came_of tuple.now list.now base) out.old out.new back.old back.new }
+fn press_more(request: Request, out: &mut [u8], back: &mut [u8]) -> Pressed
+    requires { Fronts request.base request.list.now request.count request.start }
+    ensures { PressToldOrLong result (press request.entry.tuple.now request.entry.list.now request.entry.base)
+        (undo request.entry.tuple.now request.entry.list.now request.entry.base)
+        (came_of request.entry.tuple.now request.entry.list.now request.entry.base) out.old out.new back.old back.new }
 {
     let mut table = [0u32; TABLE_ROOM];
     let mut work = [0u8; MAX_TUPLE];
     match update_delivering::press_with(
-        tuple,
-        list,
-        base,
-        front.start,
-        front.count,
+        request.tuple,
+        request.list,
+        request.base,
+        request.start,
+        request.count,
         &mut table,
         &mut work,
         out,
         back,
     ) {
-        Err(Failed::NoRoom) => press_long(tuple, list, base, front, &mut table, out, back),
+        Err(Failed::NoRoom) => press_long(request, &mut table, out, back),
         Err(Failed::Refused(refusal, i)) => Err(Failed::Refused(refusal, i)),
         Ok(lengths) => Ok(lengths),
     }
@@ -344,24 +327,24 @@ fn pressed(tuple: &[u8], list: &[u8], base: u64, out: &mut [u8], back: &mut [u8]
     ensures { PressToldOrLong result (press tuple.now list.now base) (undo tuple.now list.now base)
         (came_of tuple.now list.now base) out.old out.new back.old back.new }
 {
-    let front = front_of(list, base);
+    let request = request_of(tuple, list, base);
     if SHORT_LIST < list.len() {
-        return press_more(tuple, list, base, front, out, back);
+        return press_more(request, out, back);
     }
     let mut table = [0u32; SHORT_TABLE];
     let mut work = [0u8; SHORT_WORK];
     match update_delivering::press_with(
-        tuple,
-        list,
-        base,
-        front.start,
-        front.count,
+        request.tuple,
+        request.list,
+        request.base,
+        request.start,
+        request.count,
         &mut table,
         &mut work,
         out,
         back,
     ) {
-        Err(Failed::NoRoom) => press_more(tuple, list, base, front, out, back),
+        Err(Failed::NoRoom) => press_more(request, out, back),
         Err(Failed::Refused(refusal, i)) => Err(Failed::Refused(refusal, i)),
         Ok(lengths) => Ok(lengths),
     }
