@@ -1,4 +1,5 @@
 -- Inner: what a call comes to, in arrays of some room.
+use mathlib.Core.Logic.{◌⊎◌}
 use Rattle.std.specs.Prelude.{ℕ, ◌≤◌, ◌≡◌, Ok, Err, Result}
 use Rattle.msgpack_first_bytes.specs.Bytes.{Bytes}
 use Rattle.msgpack_values.specs.Spoiled.{no_place}
@@ -77,3 +78,13 @@ FewIn (Ok n) = Unit {0}
 
 abbrev pub press_answer_by : Answer → ℕ → PressAnswer
 press_answer_by a n = record { number = a.number; operation = a.operation; length = a.length; undo_length = n; place = a.place }
+
+-- ---- tries
+
+-- a call in some arrays
+abbrev pub Once : {F A B R : Type 0} → (F → A → B → Result R Failed → A → B → F → Type 0) → F → Result R Failed → F → Type 0
+Once {F} {A} {B} {R} step f r f' = (a : A) × (b : B) × (a' : A) × (b' : B) × step f a b r a' b' f'
+
+-- .. and where these have no room, in others
+abbrev pub Tries : {F A B R : Type 0} → (F → A → B → Result R Failed → A → B → F → Type 0) → F → Result R Failed → F → Type 0
+Tries {F} {A} {B} {R} step f r f' = Once step f r f' ⊎ ((g : F) × Once step f (Err NoRoom) g × Once step g r f')

@@ -9,7 +9,7 @@ ghost use Rattle.tuples.specs.Limits.{max_tuple};
 ghost use Rattle.update_answers.specs.Seen.{seen, press_seen};
 ghost use Rattle.update_running.specs.Carrying.{table_room};
 ghost use Rattle.update_delivering.specs.Delivering.{long_by};
-ghost use Rattle.updates.specs.Telling.{Fronts, came_of, Tells, Told, ToldOrLong, PressToldOrLong, Refuses, answer_by, FewIn, press_answer_by};
+ghost use Rattle.updates.specs.Telling.{Fronts, came_of, Once, Tries, Tells, Told, ToldOrLong, PressTells, PressToldOrLong, Refuses, answer_by, FewIn, press_answer_by};
 
 use msgpack_values::NO_PLACE;
 use tuples::{Answer, MAX_OPERATIONS, MAX_TUPLE, PressAnswer, Refusal};
@@ -22,9 +22,6 @@ const SHORT_LIST: usize = 512;
 const SHORT_TABLE: usize = 144;
 
 const SHORT_WORK: usize = 256;
-
-// Stays: each call tries its arrays in its own words, since one function over a closure would have to take its promise (`Told`, `ToldOrLong`, `PressToldOrLong`) and its last resort as parameters.
-// Stays: the arms `Refused` and `Ok` that hand on what was told, since with `told => told` the goals (`returns-in_default`) hold a value that no proof file can name.
 
 // What a call asks for: the operations of a list on a tuple. The list's front tells how many they are and where the
 // first of them begins; more than the limit where the list is refused.
@@ -55,6 +52,39 @@ fn request_of<'a>(tuple: &'a [u8], list: &'a [u8], base: u64) -> Request<'a>
     }
 }
 
+// ---- the tries
+
+// In arrays for most calls.
+fn tried_more<T, F: FnMut(&mut [u32], &mut [u8]) -> Result<T, Failed>>(
+    call: &mut F,
+) -> Result<T, Failed>
+    requires { F.IsAlwaysCallable call.old }
+    ensures { Once F.step call.old result call.new }
+{
+    let mut table = [0u32; TABLE_ROOM];
+    let mut work = [0u8; MAX_TUPLE];
+    call(&mut table, &mut work)
+}
+
+// In short arrays first, where the list is short.
+fn tried<T, F: FnMut(&mut [u32], &mut [u8]) -> Result<T, Failed>>(
+    list: &[u8],
+    call: &mut F,
+) -> Result<T, Failed>
+    requires { F.IsAlwaysCallable call.old }
+    ensures { Tries F.step call.old result call.new }
+{
+    if SHORT_LIST < list.len() {
+        return tried_more(call);
+    }
+    let mut table = [0u32; SHORT_TABLE];
+    let mut work = [0u8; SHORT_WORK];
+    match call(&mut table, &mut work) {
+        Err(Failed::NoRoom) => tried_more(call),
+        told => told,
+    }
+}
+
 // ---- the update call
 
 fn update_in(request: Request, table: &mut [u32], work: &mut [u8], out: &mut [u8]) -> Call
@@ -77,14 +107,15 @@ fn update_in(request: Request, table: &mut [u32], work: &mut [u8], out: &mut [u8
 }
 
 // Wherever the work array is full, the fields up to there become the tuple, and the run goes on from it.
-fn update_long(request: Request, table: &mut [u32], work: &mut [u8], out: &mut [u8]) -> Call
-    requires { Fronts request.base request.list.now request.count request.start
-        × (length table.old ≡ table_room) × (length work.old ≡ max_tuple) }
+fn update_long(request: Request, out: &mut [u8]) -> Call
+    requires { Fronts request.base request.list.now request.count request.start }
     ensures { Told result (update request.entry.tuple.now request.entry.list.now request.entry.base) out.old out.new }
 {
     if MAX_TUPLE < request.tuple.len() {
         return Err(Failed::Refused(Refusal::BadTuple, 0));
     }
+    let mut table = [0u32; TABLE_ROOM];
+    let mut work = [0u8; MAX_TUPLE];
     let mut one = [0u8; MAX_TUPLE];
     let mut other = [0u8; MAX_TUPLE];
     let mut length = msgpack_writing::write_bytes(&mut one, 0, request.tuple);
@@ -98,8 +129,8 @@ fn update_long(request: Request, table: &mut [u32], work: &mut [u8], out: &mut [
             at,
             i,
             request.count,
-            table,
-            work,
+            &mut table,
+            &mut work,
             &mut other,
             out,
         ) {
@@ -115,33 +146,15 @@ fn update_long(request: Request, table: &mut [u32], work: &mut [u8], out: &mut [
     }
 }
 
-fn update_more(request: Request, out: &mut [u8]) -> Call
-    requires { Fronts request.base request.list.now request.count request.start }
-    ensures { Told result (update request.entry.tuple.now request.entry.list.now request.entry.base) out.old out.new }
-{
-    let mut table = [0u32; TABLE_ROOM];
-    let mut work = [0u8; MAX_TUPLE];
-    match update_in(request, &mut table, &mut work, out) {
-        Err(Failed::NoRoom) => update_long(request, &mut table, &mut work, out),
-        Err(Failed::Refused(refusal, i)) => Err(Failed::Refused(refusal, i)),
-        Ok(length) => Ok(length),
-    }
-}
-
 // The update call, but for the place.
 fn updated(tuple: &[u8], list: &[u8], base: u64, out: &mut [u8]) -> Call
     ensures { Told result (update tuple.now list.now base) out.old out.new }
 {
     let request = request_of(tuple, list, base);
-    if SHORT_LIST < list.len() {
-        return update_more(request, out);
-    }
-    let mut table = [0u32; SHORT_TABLE];
-    let mut work = [0u8; SHORT_WORK];
-    match update_in(request, &mut table, &mut work, out) {
-        Err(Failed::NoRoom) => update_more(request, out),
-        Err(Failed::Refused(refusal, i)) => Err(Failed::Refused(refusal, i)),
-        Ok(length) => Ok(length),
+    let mut call = |table: &mut [u32], work: &mut [u8]| update_in(request, table, work, out);
+    match tried(list, &mut call) {
+        Err(Failed::NoRoom) => update_long(request, out),
+        told => told,
     }
 }
 
@@ -175,13 +188,10 @@ pub fn update(tuple: &[u8], list: &[u8], index_base: u64, out: &mut [u8]) -> Ans
 
 // ---- the undo call
 
-// In the longest work array: where it is full, the undo list is too long.
-fn undo_long(request: Request, table: &mut [u32; TABLE_ROOM], out: &mut [u8]) -> Call
+fn undo_in(request: Request, table: &mut [u32], work: &mut [u8], out: &mut [u8]) -> Call
     requires { Fronts request.base request.list.now request.count request.start }
-    ensures { ToldOrLong result (undo request.entry.tuple.now request.entry.list.now request.entry.base)
-        (came_of request.entry.tuple.now request.entry.list.now request.entry.base) out.old out.new }
+    ensures { Tells result (undo request.entry.tuple.now request.entry.list.now request.entry.base) out.old out.new }
 {
-    let mut work = [0u8; WORK_ROOM];
     update_delivering::undo_with(
         request.tuple,
         request.list,
@@ -189,19 +199,20 @@ fn undo_long(request: Request, table: &mut [u32; TABLE_ROOM], out: &mut [u8]) ->
         request.start,
         request.count,
         table,
-        &mut work,
+        work,
         out,
     )
 }
 
-fn undo_more(request: Request, out: &mut [u8]) -> Call
+// In the longest work array: where it is full, the undo list is too long.
+fn undo_long(request: Request, out: &mut [u8]) -> Call
     requires { Fronts request.base request.list.now request.count request.start }
     ensures { ToldOrLong result (undo request.entry.tuple.now request.entry.list.now request.entry.base)
         (came_of request.entry.tuple.now request.entry.list.now request.entry.base) out.old out.new }
 {
     let mut table = [0u32; TABLE_ROOM];
-    let mut work = [0u8; MAX_TUPLE];
-    match update_delivering::undo_with(
+    let mut work = [0u8; WORK_ROOM];
+    update_delivering::undo_with(
         request.tuple,
         request.list,
         request.base,
@@ -210,11 +221,7 @@ fn undo_more(request: Request, out: &mut [u8]) -> Call
         &mut table,
         &mut work,
         out,
-    ) {
-        Err(Failed::NoRoom) => undo_long(request, &mut table, out),
-        Err(Failed::Refused(refusal, i)) => Err(Failed::Refused(refusal, i)),
-        Ok(length) => Ok(length),
-    }
+    )
 }
 
 // The undo call, but for the place, and for an undo list that is too long for every work array.
@@ -222,24 +229,10 @@ fn undone(tuple: &[u8], list: &[u8], base: u64, out: &mut [u8]) -> Call
     ensures { ToldOrLong result (undo tuple.now list.now base) (came_of tuple.now list.now base) out.old out.new }
 {
     let request = request_of(tuple, list, base);
-    if SHORT_LIST < list.len() {
-        return undo_more(request, out);
-    }
-    let mut table = [0u32; SHORT_TABLE];
-    let mut work = [0u8; SHORT_WORK];
-    match update_delivering::undo_with(
-        request.tuple,
-        request.list,
-        request.base,
-        request.start,
-        request.count,
-        &mut table,
-        &mut work,
-        out,
-    ) {
-        Err(Failed::NoRoom) => undo_more(request, out),
-        Err(Failed::Refused(refusal, i)) => Err(Failed::Refused(refusal, i)),
-        Ok(length) => Ok(length),
+    let mut call = |table: &mut [u32], work: &mut [u8]| undo_in(request, table, work, out);
+    match tried(list, &mut call) {
+        Err(Failed::NoRoom) => undo_long(request, out),
+        told => told,
     }
 }
 
@@ -271,19 +264,16 @@ pub fn undo(tuple: &[u8], list: &[u8], index_base: u64, out: &mut [u8]) -> Answe
 
 // ---- the press call
 
-// In the longest work array.
-fn press_long(
+fn press_in(
     request: Request,
-    table: &mut [u32; TABLE_ROOM],
+    table: &mut [u32],
+    work: &mut [u8],
     out: &mut [u8],
     back: &mut [u8],
 ) -> Pressed
     requires { Fronts request.base request.list.now request.count request.start }
-    ensures { PressToldOrLong result (press request.entry.tuple.now request.entry.list.now request.entry.base)
-        (undo request.entry.tuple.now request.entry.list.now request.entry.base)
-        (came_of request.entry.tuple.now request.entry.list.now request.entry.base) out.old out.new back.old back.new }
+    ensures { PressTells result (press request.entry.tuple.now request.entry.list.now request.entry.base) out.old out.new back.old back.new }
 {
-    let mut work = [0u8; WORK_ROOM];
     update_delivering::press_with(
         request.tuple,
         request.list,
@@ -291,21 +281,22 @@ fn press_long(
         request.start,
         request.count,
         table,
-        &mut work,
+        work,
         out,
         back,
     )
 }
 
-fn press_more(request: Request, out: &mut [u8], back: &mut [u8]) -> Pressed
+// In the longest work array.
+fn press_long(request: Request, out: &mut [u8], back: &mut [u8]) -> Pressed
     requires { Fronts request.base request.list.now request.count request.start }
     ensures { PressToldOrLong result (press request.entry.tuple.now request.entry.list.now request.entry.base)
         (undo request.entry.tuple.now request.entry.list.now request.entry.base)
         (came_of request.entry.tuple.now request.entry.list.now request.entry.base) out.old out.new back.old back.new }
 {
     let mut table = [0u32; TABLE_ROOM];
-    let mut work = [0u8; MAX_TUPLE];
-    match update_delivering::press_with(
+    let mut work = [0u8; WORK_ROOM];
+    update_delivering::press_with(
         request.tuple,
         request.list,
         request.base,
@@ -315,11 +306,7 @@ fn press_more(request: Request, out: &mut [u8], back: &mut [u8]) -> Pressed
         &mut work,
         out,
         back,
-    ) {
-        Err(Failed::NoRoom) => press_long(request, &mut table, out, back),
-        Err(Failed::Refused(refusal, i)) => Err(Failed::Refused(refusal, i)),
-        Ok(lengths) => Ok(lengths),
-    }
+    )
 }
 
 // The press call, but for the place, and for an undo list that is too long for every work array.
@@ -328,25 +315,10 @@ fn pressed(tuple: &[u8], list: &[u8], base: u64, out: &mut [u8], back: &mut [u8]
         (came_of tuple.now list.now base) out.old out.new back.old back.new }
 {
     let request = request_of(tuple, list, base);
-    if SHORT_LIST < list.len() {
-        return press_more(request, out, back);
-    }
-    let mut table = [0u32; SHORT_TABLE];
-    let mut work = [0u8; SHORT_WORK];
-    match update_delivering::press_with(
-        request.tuple,
-        request.list,
-        request.base,
-        request.start,
-        request.count,
-        &mut table,
-        &mut work,
-        out,
-        back,
-    ) {
-        Err(Failed::NoRoom) => press_more(request, out, back),
-        Err(Failed::Refused(refusal, i)) => Err(Failed::Refused(refusal, i)),
-        Ok(lengths) => Ok(lengths),
+    let mut call = |table: &mut [u32], work: &mut [u8]| press_in(request, table, work, out, back);
+    match tried(list, &mut call) {
+        Err(Failed::NoRoom) => press_long(request, out, back),
+        told => told,
     }
 }
 

@@ -16,8 +16,8 @@ returns-then-request-gt-MAX_TUPLE c =
 pub loop-n-init : goal.loop-n-init
 loop-n-init c =
     let a = c.args in
-    let f = first_turn a.request.tuple.now a.request.list.now a.request.base a.request.count a.request.start c.requires.0 _ c.write_bytes-length.ensures (omega arith) in
-    (f.0, (refl, (refl, (f.1.0, (f.1.1, (refl, (c.requires.1, c.requires.2)))))))
+    let f = first_turn a.request.tuple.now a.request.list.now a.request.base a.request.count a.request.start c.requires _ c.write_bytes-length.ensures (omega arith) in
+    (f.0, (refl, (refl, (f.1.0, (f.1.1, (refl, (refl, refl)))))))
 
 pub slice_bounds-one-end : goal.slice_bounds-one-end
 slice_bounds-one-end c = omega arith
