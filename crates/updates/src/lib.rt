@@ -54,7 +54,8 @@ fn request_of<'a>(tuple: &'a [u8], list: &'a [u8], base: u64) -> Request<'a>
 
 // ---- the tries
 
-// In arrays for most calls.
+// In arrays for most calls. Not inlined, nor are the last tries: every call would set aside the stack of their arrays.
+#[inline(never)]
 fn tried_more<T, F: FnMut(&mut [u32], &mut [u8]) -> Result<T, Failed>>(
     call: &mut F,
 ) -> Result<T, Failed>
@@ -107,6 +108,7 @@ fn update_in(request: Request, table: &mut [u32], work: &mut [u8], out: &mut [u8
 }
 
 // Wherever the work array is full, the fields up to there become the tuple, and the run goes on from it.
+#[inline(never)]
 fn update_long(request: Request, out: &mut [u8]) -> Call
     requires { Fronts request.base request.list.now request.count request.start }
     ensures { Told result (update request.entry.tuple.now request.entry.list.now request.entry.base) out.old out.new }
@@ -205,6 +207,7 @@ fn undo_in(request: Request, table: &mut [u32], work: &mut [u8], out: &mut [u8])
 }
 
 // In the longest work array: where it is full, the undo list is too long.
+#[inline(never)]
 fn undo_long(request: Request, out: &mut [u8]) -> Call
     requires { Fronts request.base request.list.now request.count request.start }
     ensures { ToldOrLong result (undo request.entry.tuple.now request.entry.list.now request.entry.base)
@@ -288,6 +291,7 @@ fn press_in(
 }
 
 // In the longest work array.
+#[inline(never)]
 fn press_long(request: Request, out: &mut [u8], back: &mut [u8]) -> Pressed
     requires { Fronts request.base request.list.now request.count request.start }
     ensures { PressToldOrLong result (press request.entry.tuple.now request.entry.list.now request.entry.base)
