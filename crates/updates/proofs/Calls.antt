@@ -35,7 +35,6 @@ use Rattle.msgpack_writing.specs.Put.{next}
 use Rattle.msgpack_writing.specs.Put as Writing
 use Rattle.msgpack_writing.proofs.Put.{wrote, through}
 use Rattle.update_delivering.specs.Delivering.{Rebased, call_failed, update_by, undo_by, long_by, both_written, Lacks, TriesUpdate, TriesUndo, TriesPress, Tried, Pressed}
-use Rattle.updates.specs.declared.Front.{Front}
 use Rattle.updates.specs.Telling.{Call, Fronts, came_of, Tells, Told, ToldOrLong, PressTells, PressToldOrLong, Refuses, answer_by, FewIn, press_answer_by}
 use Rattle.tuples.specs.declared.Answer.{Answer}
 use Rattle.update_delivering.specs.declared.Failed.{Failed}
@@ -44,7 +43,7 @@ use Rattle.update_delivering.specs.declared.Unwritten.TheVariants.{Moved, NoRoom
 
 -- ---- the front of a list
 
-pub front_is : (base : ℕ) (l : Bytes) {r : Either (ℕ × ℕ)} → r ≡ front base l → {f : ℕ × ℕ} → f ≡ unwrap_or r (65, 0) → Fronts base l (record { count = f.0; start = f.1 })
+pub front_is : (base : ℕ) (l : Bytes) {r : Either (ℕ × ℕ)} → r ≡ front base l → {f : ℕ × ℕ} → f ≡ unwrap_or r (65, 0) → Fronts base l f.0 f.1
 unfolding rest_of
 front_is base l {r = None} h q = rw q (sym (bad base l h refl))
 front_is base l {r = Some (n, e)} h q = let j = good base l h refl in rw (q, le-leb n max_operations j.few, le-leb (length l) max_list j.short, sub-zero) (sym j.all)
@@ -100,9 +99,9 @@ abbrev pub told_by : Tried → Call
 told_by (Err u) = Err (call_failed u)
 told_by (Ok n) = Ok n
 
-module _ (t l : Bytes) (b : ℕ) (f : Front) (F : Fronts b l f) (out left : Bytes) where
+module _ (t l : Bytes) (b : ℕ) (count start : ℕ) (F : Fronts b l count start) (out left : Bytes) where
   abbrev came : Came
-  came = comes_to 0 (fields_of t) (rest_of b f.count 0 f.start l)
+  came = comes_to 0 (fields_of t) (rest_of b count 0 start l)
 
   came-is : came ≡ came_of t l b
   came-is = ap (comes_to 0 (fields_of t)) F
@@ -110,14 +109,14 @@ module _ (t l : Bytes) (b : ℕ) (f : Front) (F : Fronts b l f) (out left : Byte
   updates_as : delivered (update_by came) out ≡ delivered (update t l b) out
   updates_as = ap (λ (c : Came). delivered (update_by c) out) came-is ∙ ap (λ (o : Outcome). delivered o out) (sym (update-came t l b))
 
-  pub told-update : (r : Tried) (spare spare' work : Bytes) (table : List ℕ) → TriesUpdate r came l out left spare spare' work table b f.count 0 → Tells (told_by r) (update t l b) out left
+  pub told-update : (r : Tried) (spare spare' work : Bytes) (table : List ℕ) → TriesUpdate r came l out left spare spare' work table b count 0 → Tells (told_by r) (update t l b) out left
   told-update (Err NoRoomYet) spare spare' work table h = h.0
   told-update (Err (Moved n at i)) spare spare' work table h = h.0
   told-update (Err (RefusedYet k i)) spare spare' work table h = (h.0 ∙ updates_as, h.2)
   told-update (Ok n) spare spare' work table h = h.0 ∙ updates_as
 
   abbrev taken : List Bytes
-  taken = takes_back (fields_of t) (rest_of b f.count 0 f.start l)
+  taken = takes_back (fields_of t) (rest_of b count 0 start l)
 
   undo-is : undo_by came taken ≡ undo t l b
   undo-is = ap (λ (O : Option (List Operation)). undo_by (comes_to 0 (fields_of t) O) (takes_back (fields_of t) O)) F ∙ sym (undo-came t l b)
@@ -274,11 +273,11 @@ pub long-tuple : (t l : Bytes) (b : ℕ) (out : Bytes) → max_tuple < length t 
 unfolding comes_to fields_of delivered
 long-tuple t l b out h = (sym (ap (λ (o : Outcome). delivered o out) (update-came t l b) ∙ rw (lt-leb (length t) max_tuple h)), omega arith)
 
-pub first_turn : (t l : Bytes) (b : ℕ) (f : Front) → Fronts b l f → (one : Bytes) {r : ℕ} {one' : Bytes} → (r ≡ next 0 t one) × (one' ≡ Writing.put 0 t one) → length t ≤ length one
-    → (comes_to 0 (fields_of (take r one')) (rest_of b f.count 0 f.start l) ≡ came_of t l b) × ((r ≤ length one) × (length one' ≡ length one))
-first_turn t l b f F one h k =
+pub first_turn : (t l : Bytes) (b : ℕ) (count start : ℕ) → Fronts b l count start → (one : Bytes) {r : ℕ} {one' : Bytes} → (r ≡ next 0 t one) × (one' ≡ Writing.put 0 t one) → length t ≤ length one
+    → (comes_to 0 (fields_of (take r one')) (rest_of b count 0 start l) ≡ came_of t l b) × ((r ≤ length one) × (length one' ≡ length one))
+first_turn t l b count start F one h k =
     let s = stands one t h k in
-    (ap (λ (x : Bytes). comes_to 0 (fields_of x) (rest_of b f.count 0 f.start l)) s.1.0 ∙ ap (comes_to 0 (fields_of t)) F, (let a = s.0 in omega arith, s.1.1))
+    (ap (λ (x : Bytes). comes_to 0 (fields_of x) (rest_of b count 0 start l)) s.1.0 ∙ ap (comes_to 0 (fields_of t)) F, (let a = s.0 in omega arith, s.1.1))
 
 -- a run that goes on tells of the whole
 module _ (t l : Bytes) (b : ℕ) {c : Came} (e : c ≡ came_of t l b) {out₀ out : Bytes} (q : out ≡ out₀) where

@@ -1,4 +1,5 @@
 -- Inner: what a call comes to, in arrays of some room.
+use mathlib.Core.Logic.{◌⊎◌}
 use Rattle.std.specs.Prelude.{ℕ, ◌≤◌, ◌≡◌, Ok, Err, Result}
 use Rattle.msgpack_first_bytes.specs.Bytes.{Bytes}
 use Rattle.msgpack_values.specs.Spoiled.{no_place}
@@ -13,7 +14,6 @@ use Rattle.tuples.specs.declared.Refusal.TheVariants.{TooLarge}
 use Rattle.update_answers.specs.Seen.{refusal_of, answer_at}
 use Rattle.update_running.specs.Carrying.{Came, comes_to, rest_of}
 use Rattle.update_delivering.specs.Delivering.{long_by, written, both_written, Pressed}
-use Rattle.updates.specs.declared.Front.{Front}
 use Rattle.update_delivering.specs.declared.Failed.TheVariants.{NoRoom, Refused}
 use Rattle.update_delivering.specs.declared.Failed.{Failed}
 
@@ -21,9 +21,9 @@ use Rattle.update_delivering.specs.declared.Failed.{Failed}
 abbrev pub Call : Type 0
 Call = Result ℕ Failed
 
--- what the front of a list tells: the operations from its place on are the list's
-abbrev pub Fronts : ℕ → Bytes → Front → Type 0
-Fronts base l f = rest_of base f.count 0 f.start l ≡ operations_of base l
+-- what the front of a list tells: so many operations from a place on are the list's
+abbrev pub Fronts : ℕ → Bytes → ℕ → ℕ → Type 0
+Fronts base l count start = rest_of base count 0 start l ≡ operations_of base l
 
 -- what a list comes to on a tuple
 abbrev pub came_of : Bytes → Bytes → ℕ → Came
@@ -78,3 +78,13 @@ FewIn (Ok n) = Unit {0}
 
 abbrev pub press_answer_by : Answer → ℕ → PressAnswer
 press_answer_by a n = record { number = a.number; operation = a.operation; length = a.length; undo_length = n; place = a.place }
+
+-- ---- tries
+
+-- a call in some arrays
+abbrev pub Once : {F A B R : Type 0} → (F → A → B → Result R Failed → A → B → F → Type 0) → F → Result R Failed → F → Type 0
+Once {F} {A} {B} {R} step f r f' = (a : A) × (b : B) × (a' : A) × (b' : B) × step f a b r a' b' f'
+
+-- .. and where these have no room, in others
+abbrev pub Tries : {F A B R : Type 0} → (F → A → B → Result R Failed → A → B → F → Type 0) → F → Result R Failed → F → Type 0
+Tries {F} {A} {B} {R} step f r f' = Once step f r f' ⊎ ((g : F) × Once step f (Err NoRoom) g × Once step g r f')

@@ -9,7 +9,7 @@ ghost use Rattle.tuples.specs.Limits.{max_tuple};
 ghost use Rattle.update_answers.specs.Seen.{seen, press_seen};
 ghost use Rattle.update_running.specs.Carrying.{table_room};
 ghost use Rattle.update_delivering.specs.Delivering.{long_by};
-ghost use Rattle.updates.specs.Telling.{Fronts, came_of, Tells, Told, ToldOrLong, PressToldOrLong, Refuses, answer_by, FewIn, press_answer_by};
+ghost use Rattle.updates.specs.Telling.{Fronts, came_of, Once, Tries, Tells, Told, ToldOrLong, PressTells, PressToldOrLong, Refuses, answer_by, FewIn, press_answer_by};
 
 use msgpack_values::NO_PLACE;
 use tuples::{Answer, MAX_OPERATIONS, MAX_TUPLE, PressAnswer, Refusal};
@@ -23,13 +23,13 @@ const SHORT_TABLE: usize = 144;
 
 const SHORT_WORK: usize = 256;
 
-// Stays: each call tries its arrays in its own words, since one function over a closure would have to take its promise (`Told`, `ToldOrLong`, `PressToldOrLong`) and its last resort as parameters.
-// Stays: the arms `Refused` and `Ok` that hand on what was told, since with `told => told` the goals (`returns-in_default`) hold a value that no proof file can name.
-
-// What a list's front tells: so many operations, the first of them at a place; more than the limit where the
-// list is refused.
+// What a call asks for: the operations of a list on a tuple. The list's front tells how many they are and where the
+// first of them begins; more than the limit where the list is refused.
 #[derive(Clone, Copy)]
-struct Front {
+struct Request<'a> {
+    tuple: &'a [u8],
+    list: &'a [u8],
+    base: u64,
     count: usize,
     start: usize,
 }
@@ -37,35 +37,69 @@ struct Front {
 // The length written, or why nothing is.
 type Call = Result<usize, Failed>;
 
-fn front_of(list: &[u8], base: u64) -> Front
-    ensures { Fronts base list.now result }
+// The front is read once for every try.
+fn request_of<'a>(tuple: &'a [u8], list: &'a [u8], base: u64) -> Request<'a>
+    ensures { (result.tuple.now ≡ tuple.now) × (result.list.now ≡ list.now) × (result.base ≡ base)
+        × Fronts base list.now result.count result.start }
 {
     let (count, start) = update_operations::front_of(list, base).unwrap_or((MAX_OPERATIONS + 1, 0));
-    Front { count, start }
+    Request {
+        tuple,
+        list,
+        base,
+        count,
+        start,
+    }
+}
+
+// ---- the tries
+
+// In arrays for most calls. Not inlined, nor are the last tries: every call would set aside the stack of their arrays.
+#[inline(never)]
+fn tried_more<T, F: FnMut(&mut [u32], &mut [u8]) -> Result<T, Failed>>(
+    call: &mut F,
+) -> Result<T, Failed>
+    requires { F.IsAlwaysCallable call.old }
+    ensures { Once F.step call.old result call.new }
+{
+    let mut table = [0u32; TABLE_ROOM];
+    let mut work = [0u8; MAX_TUPLE];
+    call(&mut table, &mut work)
+}
+
+// In short arrays first, where the list is short.
+fn tried<T, F: FnMut(&mut [u32], &mut [u8]) -> Result<T, Failed>>(
+    list: &[u8],
+    call: &mut F,
+) -> Result<T, Failed>
+    requires { F.IsAlwaysCallable call.old }
+    ensures { Tries F.step call.old result call.new }
+{
+    if SHORT_LIST < list.len() {
+        return tried_more(call);
+    }
+    let mut table = [0u32; SHORT_TABLE];
+    let mut work = [0u8; SHORT_WORK];
+    match call(&mut table, &mut work) {
+        Err(Failed::NoRoom) => tried_more(call),
+        told => told,
+    }
 }
 
 // ---- the update call
 
-fn update_in(
-    tuple: &[u8],
-    list: &[u8],
-    base: u64,
-    front: Front,
-    table: &mut [u32],
-    work: &mut [u8],
-    out: &mut [u8],
-) -> Call
-    requires { Fronts base list.now front }
-    ensures { Tells result (update tuple.now list.now base) out.old out.new }
+fn update_in(request: Request, table: &mut [u32], work: &mut [u8], out: &mut [u8]) -> Call
+    requires { Fronts request.base request.list.now request.count request.start }
+    ensures { Tells result (update request.entry.tuple.now request.entry.list.now request.entry.base) out.old out.new }
 {
     let mut none = [0u8; 0];
     Ok(update_delivering::update_with(
-        tuple,
-        list,
-        base,
-        front.start,
+        request.tuple,
+        request.list,
+        request.base,
+        request.start,
         0,
-        front.count,
+        request.count,
         table,
         work,
         &mut none,
@@ -74,36 +108,31 @@ fn update_in(
 }
 
 // Wherever the work array is full, the fields up to there become the tuple, and the run goes on from it.
-fn update_long(
-    tuple: &[u8],
-    list: &[u8],
-    base: u64,
-    front: Front,
-    table: &mut [u32],
-    work: &mut [u8],
-    out: &mut [u8],
-) -> Call
-    requires { Fronts base list.now front × (length table.old ≡ table_room) × (length work.old ≡ max_tuple) }
-    ensures { Told result (update tuple.now list.now base) out.old out.new }
+#[inline(never)]
+fn update_long(request: Request, out: &mut [u8]) -> Call
+    requires { Fronts request.base request.list.now request.count request.start }
+    ensures { Told result (update request.entry.tuple.now request.entry.list.now request.entry.base) out.old out.new }
 {
-    if MAX_TUPLE < tuple.len() {
+    if MAX_TUPLE < request.tuple.len() {
         return Err(Failed::Refused(Refusal::BadTuple, 0));
     }
+    let mut table = [0u32; TABLE_ROOM];
+    let mut work = [0u8; MAX_TUPLE];
     let mut one = [0u8; MAX_TUPLE];
     let mut other = [0u8; MAX_TUPLE];
-    let mut length = msgpack_writing::write_bytes(&mut one, 0, tuple);
-    let mut at = front.start;
+    let mut length = msgpack_writing::write_bytes(&mut one, 0, request.tuple);
+    let mut at = request.start;
     let mut i = 0;
-    'turns: loop {
+    loop {
         match update_delivering::update_with(
             &one[..length],
-            list,
-            base,
+            request.list,
+            request.base,
             at,
             i,
-            front.count,
-            table,
-            work,
+            request.count,
+            &mut table,
+            &mut work,
             &mut other,
             out,
         ) {
@@ -119,33 +148,15 @@ fn update_long(
     }
 }
 
-fn update_more(tuple: &[u8], list: &[u8], base: u64, front: Front, out: &mut [u8]) -> Call
-    requires { Fronts base list.now front }
-    ensures { Told result (update tuple.now list.now base) out.old out.new }
-{
-    let mut table = [0u32; TABLE_ROOM];
-    let mut work = [0u8; MAX_TUPLE];
-    match update_in(tuple, list, base, front, &mut table, &mut work, out) {
-        Err(Failed::NoRoom) => update_long(tuple, list, base, front, &mut table, &mut work, out),
-        Err(Failed::Refused(refusal, i)) => Err(Failed::Refused(refusal, i)),
-        Ok(length) => Ok(length),
-    }
-}
-
 // The update call, but for the place.
 fn updated(tuple: &[u8], list: &[u8], base: u64, out: &mut [u8]) -> Call
     ensures { Told result (update tuple.now list.now base) out.old out.new }
 {
-    let front = front_of(list, base);
-    if SHORT_LIST < list.len() {
-        return update_more(tuple, list, base, front, out);
-    }
-    let mut table = [0u32; SHORT_TABLE];
-    let mut work = [0u8; SHORT_WORK];
-    match update_in(tuple, list, base, front, &mut table, &mut work, out) {
-        Err(Failed::NoRoom) => update_more(tuple, list, base, front, out),
-        Err(Failed::Refused(refusal, i)) => Err(Failed::Refused(refusal, i)),
-        Ok(length) => Ok(length),
+    let request = request_of(tuple, list, base);
+    let mut call = |table: &mut [u32], work: &mut [u8]| update_in(request, table, work, out);
+    match tried(list, &mut call) {
+        Err(Failed::NoRoom) => update_long(request, out),
+        told => told,
     }
 }
 
@@ -179,76 +190,52 @@ pub fn update(tuple: &[u8], list: &[u8], index_base: u64, out: &mut [u8]) -> Ans
 
 // ---- the undo call
 
-// In the longest work array: where it is full, the undo list is too long.
-fn undo_long(
-    tuple: &[u8],
-    list: &[u8],
-    base: u64,
-    front: Front,
-    table: &mut [u32; TABLE_ROOM],
-    out: &mut [u8],
-) -> Call
-    requires { Fronts base list.now front }
-    ensures { ToldOrLong result (undo tuple.now list.now base) (came_of tuple.now list.now base) out.old out.new }
+fn undo_in(request: Request, table: &mut [u32], work: &mut [u8], out: &mut [u8]) -> Call
+    requires { Fronts request.base request.list.now request.count request.start }
+    ensures { Tells result (undo request.entry.tuple.now request.entry.list.now request.entry.base) out.old out.new }
 {
-    let mut work = [0u8; WORK_ROOM];
     update_delivering::undo_with(
-        tuple,
-        list,
-        base,
-        front.start,
-        front.count,
+        request.tuple,
+        request.list,
+        request.base,
+        request.start,
+        request.count,
         table,
-        &mut work,
+        work,
         out,
     )
 }
 
-fn undo_more(tuple: &[u8], list: &[u8], base: u64, front: Front, out: &mut [u8]) -> Call
-    requires { Fronts base list.now front }
-    ensures { ToldOrLong result (undo tuple.now list.now base) (came_of tuple.now list.now base) out.old out.new }
+// In the longest work array: where it is full, the undo list is too long.
+#[inline(never)]
+fn undo_long(request: Request, out: &mut [u8]) -> Call
+    requires { Fronts request.base request.list.now request.count request.start }
+    ensures { ToldOrLong result (undo request.entry.tuple.now request.entry.list.now request.entry.base)
+        (came_of request.entry.tuple.now request.entry.list.now request.entry.base) out.old out.new }
 {
     let mut table = [0u32; TABLE_ROOM];
-    let mut work = [0u8; MAX_TUPLE];
-    match update_delivering::undo_with(
-        tuple,
-        list,
-        base,
-        front.start,
-        front.count,
+    let mut work = [0u8; WORK_ROOM];
+    update_delivering::undo_with(
+        request.tuple,
+        request.list,
+        request.base,
+        request.start,
+        request.count,
         &mut table,
         &mut work,
         out,
-    ) {
-        Err(Failed::NoRoom) => undo_long(tuple, list, base, front, &mut table, out),
-        Err(Failed::Refused(refusal, i)) => Err(Failed::Refused(refusal, i)),
-        Ok(length) => Ok(length),
-    }
+    )
 }
 
 // The undo call, but for the place, and for an undo list that is too long for every work array.
 fn undone(tuple: &[u8], list: &[u8], base: u64, out: &mut [u8]) -> Call
     ensures { ToldOrLong result (undo tuple.now list.now base) (came_of tuple.now list.now base) out.old out.new }
 {
-    let front = front_of(list, base);
-    if SHORT_LIST < list.len() {
-        return undo_more(tuple, list, base, front, out);
-    }
-    let mut table = [0u32; SHORT_TABLE];
-    let mut work = [0u8; SHORT_WORK];
-    match update_delivering::undo_with(
-        tuple,
-        list,
-        base,
-        front.start,
-        front.count,
-        &mut table,
-        &mut work,
-        out,
-    ) {
-        Err(Failed::NoRoom) => undo_more(tuple, list, base, front, out),
-        Err(Failed::Refused(refusal, i)) => Err(Failed::Refused(refusal, i)),
-        Ok(length) => Ok(length),
+    let request = request_of(tuple, list, base);
+    let mut call = |table: &mut [u32], work: &mut [u8]| undo_in(request, table, work, out);
+    match tried(list, &mut call) {
+        Err(Failed::NoRoom) => undo_long(request, out),
+        told => told,
     }
 }
 
@@ -280,63 +267,50 @@ pub fn undo(tuple: &[u8], list: &[u8], index_base: u64, out: &mut [u8]) -> Answe
 
 // ---- the press call
 
-// In the longest work array.
-fn press_long(
-    tuple: &[u8],
-    list: &[u8],
-    base: u64,
-    front: Front,
-    table: &mut [u32; TABLE_ROOM],
+fn press_in(
+    request: Request,
+    table: &mut [u32],
+    work: &mut [u8],
     out: &mut [u8],
     back: &mut [u8],
 ) -> Pressed
-    requires { Fronts base list.now front }
-    ensures { PressToldOrLong result (press tuple.now list.now base) (undo tuple.now list.now base)
-        (came_of tuple.now list.now base) out.old out.new back.old back.new }
+    requires { Fronts request.base request.list.now request.count request.start }
+    ensures { PressTells result (press request.entry.tuple.now request.entry.list.now request.entry.base) out.old out.new back.old back.new }
 {
-    let mut work = [0u8; WORK_ROOM];
     update_delivering::press_with(
-        tuple,
-        list,
-        base,
-        front.start,
-        front.count,
+        request.tuple,
+        request.list,
+        request.base,
+        request.start,
+        request.count,
         table,
-        &mut work,
+        work,
         out,
         back,
     )
 }
 
-fn press_more(
-    tuple: &[u8],
-    list: &[u8],
-    base: u64,
-    front: Front,
-    out: &mut [u8],
-    back: &mut [u8],
-) -> Pressed
-    requires { Fronts base list.now front }
-    ensures { PressToldOrLong result (press tuple.now list.now base) (undo tuple.now list.now base)
-        (came_of tuple.now list.now base) out.old out.new back.old back.new }
+// In the longest work array.
+#[inline(never)]
+fn press_long(request: Request, out: &mut [u8], back: &mut [u8]) -> Pressed
+    requires { Fronts request.base request.list.now request.count request.start }
+    ensures { PressToldOrLong result (press request.entry.tuple.now request.entry.list.now request.entry.base)
+        (undo request.entry.tuple.now request.entry.list.now request.entry.base)
+        (came_of request.entry.tuple.now request.entry.list.now request.entry.base) out.old out.new back.old back.new }
 {
     let mut table = [0u32; TABLE_ROOM];
-    let mut work = [0u8; MAX_TUPLE];
-    match update_delivering::press_with(
-        tuple,
-        list,
-        base,
-        front.start,
-        front.count,
+    let mut work = [0u8; WORK_ROOM];
+    update_delivering::press_with(
+        request.tuple,
+        request.list,
+        request.base,
+        request.start,
+        request.count,
         &mut table,
         &mut work,
         out,
         back,
-    ) {
-        Err(Failed::NoRoom) => press_long(tuple, list, base, front, &mut table, out, back),
-        Err(Failed::Refused(refusal, i)) => Err(Failed::Refused(refusal, i)),
-        Ok(lengths) => Ok(lengths),
-    }
+    )
 }
 
 // The press call, but for the place, and for an undo list that is too long for every work array.
@@ -344,26 +318,11 @@ fn pressed(tuple: &[u8], list: &[u8], base: u64, out: &mut [u8], back: &mut [u8]
     ensures { PressToldOrLong result (press tuple.now list.now base) (undo tuple.now list.now base)
         (came_of tuple.now list.now base) out.old out.new back.old back.new }
 {
-    let front = front_of(list, base);
-    if SHORT_LIST < list.len() {
-        return press_more(tuple, list, base, front, out, back);
-    }
-    let mut table = [0u32; SHORT_TABLE];
-    let mut work = [0u8; SHORT_WORK];
-    match update_delivering::press_with(
-        tuple,
-        list,
-        base,
-        front.start,
-        front.count,
-        &mut table,
-        &mut work,
-        out,
-        back,
-    ) {
-        Err(Failed::NoRoom) => press_more(tuple, list, base, front, out, back),
-        Err(Failed::Refused(refusal, i)) => Err(Failed::Refused(refusal, i)),
-        Ok(lengths) => Ok(lengths),
+    let request = request_of(tuple, list, base);
+    let mut call = |table: &mut [u32], work: &mut [u8]| press_in(request, table, work, out, back);
+    match tried(list, &mut call) {
+        Err(Failed::NoRoom) => press_long(request, out, back),
+        told => told,
     }
 }
 

@@ -6,4 +6,4 @@ use Rattle.updates.proofs.press_long.Goals as goal
 pub returns : goal.returns
 returns c =
     let a = c.args in
-    told-long-press a.tuple.now a.list.now a.base a.front c.requires a.out.now _ a.back.now _ c.press_with.result _ a.table.now (omega arith) (omega arith) c.press_with.ensures
+    told-long-press a.request.tuple.now a.request.list.now a.request.base a.request.count a.request.start c.requires a.out.now _ a.back.now _ c.press_with.result _ _ (omega arith) (omega arith) c.press_with.ensures

@@ -6,4 +6,4 @@ use Rattle.updates.proofs.undo_long.Goals as goal
 pub returns : goal.returns
 returns c =
     let a = c.args in
-    told-long a.tuple.now a.list.now a.base a.front c.requires a.out.now _ c.undo_with.result _ a.table.now (omega arith) (omega arith) c.undo_with.ensures
+    told-long a.request.tuple.now a.request.list.now a.request.base a.request.count a.request.start c.requires a.out.now _ c.undo_with.result _ _ (omega arith) (omega arith) c.undo_with.ensures
