@@ -123,6 +123,7 @@ fn update_long(request: Request, out: &mut [u8]) -> Call
     let mut length = msgpack_writing::write_bytes(&mut one, 0, request.tuple);
     let mut at = request.start;
     let mut i = 0;
+    // Stays: a loop, since each turn tells where the next begins.
     loop {
         match update_delivering::update_with(
             &one[..length],
