@@ -252,6 +252,7 @@ fn judged(tuple: &[u8], list: &[u8], base: u64) -> Call
 }
 
 // What takes the list's operations on the tuple back; the undo list into `out`.
+// Stays: `Refused` and `Ok` have arms of their own, here, in `judged` and in `press`: with one arm `told => told` the proof did not close.
 pub fn undo(tuple: &[u8], list: &[u8], index_base: u64, out: &mut [u8]) -> Answer
     ensures { seen result out.new ≡ undo_call tuple.now list.now index_base out.old }
 {
