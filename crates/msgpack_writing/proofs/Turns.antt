@@ -1,11 +1,12 @@
--- A turn of the loop that writes a number. Assumes nothing.
+-- A turn of each loop that writes. Assumes nothing.
 use mathlib.Core.Path.{◌≡◌, ap}
 use mathlib.Core.List.{[], ◌∷◌, ◌++◌, append_assoc}
 use Prim.Native.Nat.{ℕ, zero, suc, ◌+◌, ◌-◌, ◌<◌, ◌/◌, ◌%◌}
 use native.Mathlib.Omega.{arith}
+use native.Mathlib.Nat.{zero-add}
 use native.Mathlib.Numerals.{add-one}
-use lib.ListN.{length, drop, set, length-set}
-use lib.Seq.{drop-cons, drop-set-lt, get_or-set_same}
+use lib.ListN.{length, take, drop, set, get_or, length-set}
+use lib.Seq.{drop-cons, drop-set-lt, get_or-set_same, paste-suc}
 use Rattle.msgpack_first_bytes.specs.Bytes.{Bytes}
 use Rattle.msgpack_writing.specs.Forms.{big_endian}
 
@@ -29,3 +30,8 @@ number_turn (suc j) high l h k =
 pub tag_store : (l q : Bytes) (tag : ℕ) → 0 < length l → drop 1 l ≡ q → set l 0 tag ≡ tag ∷ q
 tag_store [] q tag h e = absurd (omega arith)
 tag_store (b ∷ l) q tag h e = ap (◌∷◌ tag) e
+
+-- a copy's loop goes from the first byte to the last
+pub copy_turn : (d s l : Bytes) (i : ℕ) → i < length s → i < length d → l ≡ take i s ++ drop i d
+    → set l i (get_or s i 0) ≡ take (i + 1) s ++ drop (i + 1) d
+copy_turn d s l i h k e = rw (e, add-one) (simp zero-add at (paste-suc d 0 s i 0 (rw zero-add k) h))

@@ -1,13 +1,15 @@
--- A new field's answer; and what is made in the free bytes alone. Assumes nothing.
+-- A field altered alone, as the edit of a tuple, and as the answer; and what is made in the free bytes alone. Assumes nothing.
 use Rattle.std.specs.Prelude.{Ok, Err, IfOk}
 use mathlib.Core.Path.{◌≡◌, refl, sym, ap, ◌∙◌}
-use mathlib.Core.List.{◌++◌}
-use mathlib.Core.Logic.{⊎_elim}
+use mathlib.Core.Bool.{true, false}
+use mathlib.Core.List.{[], ◌∷◌, ◌++◌}
+use mathlib.Core.Logic.{◌⊎◌, inl, inr, ⊎_elim}
+use mathlib.Core.Option.{Option, none, some}
 use Prim.Native.Nat.{ℕ, ◌+◌, ◌-◌, ◌<◌, ◌≤◌, min}
 use native.Mathlib.Omega.{arith}
-use borrow.Author.Tests.{le-leb, lt-leb}
+use borrow.Author.Tests.{le-leb, lt-leb, lt-ltb, le-ltb}
 use lib.Dec.{leb}
-use lib.ListN.{length, take, drop, length-drop, take-append-drop}
+use lib.ListN.{length, take, drop, get_or, length-drop, take-append-drop}
 use lib.Seq.{drop-drop, take-length, take_all}
 use Rattle.msgpack_first_bytes.specs.Bytes.{Bytes, pick}
 use Rattle.msgpack_first_bytes.proofs.Logic.{either}
@@ -15,12 +17,81 @@ use Rattle.msgpack_writing.specs.Put.{next, Writes}
 use Rattle.msgpack_writing.specs.Put as Writing
 use Rattle.msgpack_writing.proofs.Put.{refused}
 use Rattle.tuples.specs.Limits.{max_tuple}
-use Rattle.tuples.specs.Edit.{Edit, refuse, put, add, cut}
-use Rattle.tuples.specs.declared.Refusal.TheVariants.{TooLarge}
-use Rattle.update_operations.specs.declared.Change.{Change}
+use Rattle.tuples.specs.Tuple.{Fields}
+use Rattle.tuples.specs.Decoding.{Got, fails, gets, Decoder}
+use Rattle.tuples.specs.Edit.{Edit, refuse, put, add, cut, became, suited, altered, edit_at}
+use Rattle.tuples.specs.declared.Refusal.{Refusal, TheVariants.NoField, TheVariants.Unsuited, TheVariants.OutOfRange, TheVariants.TooLarge}
+use Rattle.update_operations.specs.Found.{change_in}
+use Rattle.update_operations.specs.declared.Bitwise.{TheVariants.And, TheVariants.Xor, TheVariants.Or}
+use Rattle.update_operations.specs.declared.Change.{Change, TheVariants.Sum, TheVariants.Bits, TheVariants.Splice}
 use Rattle.update_places.specs.Place.{start_of, length_of, bytes_from, bytes_at}
 use Rattle.update_altering.specs.Altering.{changed, Alters, Altered, altered_by, work_by}
 use Rattle.update_altering.specs.declared.Obstacle.TheVariants.{Full, Refused}
+
+-- ---- the edit of the field alone, as that of field f
+
+abbrev pub moved : ℕ → Edit → Edit
+moved f (refuse k) = refuse k
+moved f (put g b) = put f b
+moved f (add g b) = add f b
+moved f (cut g m) = cut f m
+
+abbrev pub Puts : Edit → Type 0
+Puts e = ((k : Refusal) × (e ≡ refuse k)) ⊎ ((b : Bytes) × (e ≡ put 0 b))
+
+-- what an edit of field f of t is, that the field alone decides
+record Moves (f : ℕ) (t : Fields) (edit : ℕ → Fields → Edit) : Type 0 where
+  here : f < length t → edit f t ≡ moved f (edit 0 (get_or t f [] ∷ []))
+  past : length t ≤ f → edit f t ≡ refuse NoField
+  puts : (field : Bytes) → Puts (edit 0 (field ∷ []))
+
+module _ {A : Type 0} (read : Decoder A) (change : A → Option Bytes) (f : ℕ) (t : Fields) where
+  altered_moves : Moves f t (altered read change)
+  unfolding altered suited became
+  altered_moves =
+      record {
+        here = λ h. rw (lt-ltb f (length t) h) (go (read (get_or t f [])));
+        past = λ h. rw (le-ltb f (length t) h);
+        puts = λ field. only (read field);
+      }
+    where
+      made : (o : Option Bytes) → became f o ≡ moved f (became 0 o)
+      made none = refl
+      made (some b) = refl
+
+      go : (g : Got A) → suited f g change ≡ moved f (suited 0 g change)
+      go fails = refl
+      go (gets a s) = made (change a)
+
+      came : (o : Option Bytes) → Puts (became 0 o)
+      came none = inl (OutOfRange, refl)
+      came (some b) = inr (b, refl)
+
+      only : (g : Got A) → Puts (suited 0 g change)
+      only fails = inl (Unsuited, refl)
+      only (gets a s) = came (change a)
+
+module _ (l : Bytes) (e f : ℕ) (t : Fields) where
+  moves : (x : Change) → Moves f t (edit_at (change_in l x e))
+  unfolding edit_at
+  moves (Sum true v) = altered_moves _ _ f t
+  moves (Sum false v) = altered_moves _ _ f t
+  moves (Bits And v) = altered_moves _ _ f t
+  moves (Bits Xor v) = altered_moves _ _ f t
+  moves (Bits Or v) = altered_moves _ _ f t
+  moves (Splice p k a) = altered_moves _ _ f t
+
+  -- what a change makes of the field alone, it makes of field f
+  pub edit_moves : (x : Change) → f < length t → edit_at (change_in l x e) f t ≡ moved f (changed l x e (get_or t f []))
+  unfolding changed
+  edit_moves x = (moves x).here
+
+  pub edit_past : (x : Change) → length t ≤ f → edit_at (change_in l x e) f t ≡ refuse NoField
+  edit_past x = (moves x).past
+
+pub only_puts : (l : Bytes) (x : Change) (e : ℕ) (field : Bytes) → Puts (changed l x e field)
+unfolding changed
+only_puts l x e field = (moves l e 0 [] x).puts field
 
 -- ---- a new field's answer
 

@@ -19,7 +19,7 @@ fn shift_in(entries: &mut [u32], p: u32)
 }
 
 // The n entries at `from`, moved down to `to`: the first one first, so that none is written over before it is read.
-// Not copy_within: where a function calls that twice, it takes a fifth longer (add 10.7 ns for 6.5, remove 13.6 for 10.7).
+// Not copy_within: where a function calls that twice, it takes longer (add 10.7 ns for 6.5, remove 13.6 for 10.7).
 fn move_down(table: &mut [u32], from: usize, to: usize, n: usize)
     requires { (to ≤ from) × (from + n ≤ length table.old) }
     ensures { table.new ≡ paste table.old to (drop from table.old) n }
